@@ -1,0 +1,6 @@
+pub mod Expansion
+pub mod Faults
+pub mod Longest
+pub mod Numerals
+pub mod Spelling
+pub mod Worked
