@@ -1,0 +1,12 @@
+pub mod Euclid
+pub mod Extends
+pub mod Integers
+pub mod Least
+pub mod Literals
+pub mod Loop
+pub mod Outcomes
+pub mod Prime
+pub mod Related
+pub mod Relations
+pub mod Sequences
+pub mod Sums
