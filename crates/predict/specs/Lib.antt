@@ -1,0 +1,9 @@
+pub mod Rules
+pub mod Tree
+pub mod Sentence
+pub mod Laws
+pub mod Stack
+pub mod Witness
+pub mod Table
+pub mod TableLaws
+pub mod Examples
