@@ -1,0 +1,7 @@
+pub mod Code
+pub mod Form
+pub mod Reading
+pub mod Residuals
+pub mod Tokens
+pub mod Translation
+pub mod Worked

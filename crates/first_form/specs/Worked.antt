@@ -1,0 +1,106 @@
+-- Rows that are worked out by hand: a resistor's text, its tree and its rows, and what tokens, names and sums give.
+use Rattle.std.specs.Prelude.{◌≡◌, ℕ, zero, suc, ℤ, pos, negsuc, List, [], ◌∷◌, map, codes}
+use Rattle.alg_laws.specs.Residue.{residue_ops}
+use Rattle.alg_laws.specs.Whole.{whole_ops}
+use Rattle.first_form.specs.Tokens.{tokens}
+use Rattle.first_form.specs.Form.{Sum, sum, no_term, plus, minus, Term, term, no_factor, times, over}
+use Rattle.first_form.specs.Form.{Factor, parameter, potential, group, FirstForm, IsTextOf, IsName, IsWhole}
+use Rattle.first_form.specs.Residuals.{residuals}
+
+abbrev pub resistor_text : List ℕ
+resistor_text = codes "module m(a, c); inout a, c; electrical a, c; parameter real r = 1; analog I(a, c) <+ V(a, c) / r; endmodule"
+
+-- a form with ports a and c and these parameters, whose flow is this sum
+abbrev pub form_of : List (List ℕ) → Sum → FirstForm
+form_of names flow = record {
+  name = codes "m";
+  first = codes "a";
+  second = codes "c";
+  params = map (λ name. record { name = name; default = codes "1" }) names;
+  flow = flow;
+}
+
+-- V(a, c) / r
+abbrev pub resistor : FirstForm
+resistor = form_of (codes "r" ∷ []) (sum (term potential (over (parameter (codes "r")) no_factor)) no_term)
+
+-- the parameters p, q and r
+abbrev pub three_names : List (List ℕ)
+three_names = codes "p" ∷ codes "q" ∷ codes "r" ∷ []
+
+abbrev pub p : Factor
+p = parameter (codes "p")
+
+abbrev pub q : Factor
+q = parameter (codes "q")
+
+abbrev pub r : Factor
+r = parameter (codes "r")
+
+-- a term of one factor
+abbrev pub alone : Factor → Term
+alone f = term f no_factor
+
+-- p - q - r
+abbrev pub differences : Sum
+differences = sum (alone p) (minus (alone q) (minus (alone r) no_term))
+
+-- p + q * r
+abbrev pub product_added : Sum
+product_added = sum (alone p) (plus (term q (times r no_factor)) no_term)
+
+-- (p + q) * r
+abbrev pub sum_multiplied : Sum
+sum_multiplied = sum (term (group (sum (alone p) (plus (alone q) no_term))) (times r no_factor)) no_term
+
+-- p / q / r
+abbrev pub quotients : Sum
+quotients = sum (term p (over q (over r no_factor))) no_term
+
+-- values at the numbers 0, 1 and from 2 on
+abbrev pub values : {V : Type 0} → V → V → V → ℕ → V
+values x y z zero = x
+values x y z (suc zero) = y
+values x y z (suc (suc i)) = z
+
+-- the rows of a flow of three parameters, in the whole numbers and between equal potentials
+abbrev pub rows_of : Sum → ℤ → ℤ → ℤ → List ℤ
+rows_of flow x y z = residuals (form_of three_names flow) ℤ whole_ops (values x y z) (λ _. pos 0)
+
+pub record WorkedTexts : Type 0 where
+  pub resistor_is_the_text : IsTextOf resistor_text resistor
+  -- 5 - 3 over 1 leaves the first port and enters the second
+  pub resistor_rows : residuals resistor ℤ whole_ops (λ _. pos 1) (values (pos 5) (pos 3) (pos 9)) ≡ pos 2 ∷ negsuc 1 ∷ []
+
+-- the longest token is taken, and blanks part words
+pub record WorkedTokens : Type 0 where
+  pub contribution : tokens (codes "I(a,c)<+V") ≡ codes "I" ∷ codes "(" ∷ codes "a" ∷ codes "," ∷ codes "c" ∷ codes ")" ∷ codes "<+" ∷ codes "V" ∷ []
+  pub parted : tokens (codes "< +") ≡ codes "<" ∷ codes "+" ∷ []
+  pub twice : tokens (codes "<<+<") ≡ codes "<" ∷ codes "<+" ∷ codes "<" ∷ []
+  pub run_together : tokens (codes "real r1 1r_") ≡ codes "real" ∷ codes "r1" ∷ codes "1r_" ∷ []
+  pub blanks : tokens (9 ∷ 97 ∷ 13 ∷ 10 ∷ 98 ∷ 32 ∷ []) ≡ codes "a" ∷ codes "b" ∷ []
+  pub other_bytes : tokens (97 ∷ 0 ∷ 11 ∷ 195 ∷ 169 ∷ []) ≡ codes "a" ∷ (0 ∷ []) ∷ (11 ∷ []) ∷ (195 ∷ []) ∷ (169 ∷ []) ∷ []
+  pub empty : tokens (codes " ") ≡ []
+
+-- names and whole numbers
+pub record WorkedNames : Type 0 where
+  pub longer_than_a_keyword : IsName (codes "endmodule_1")
+  pub other_case : IsName (codes "Real")
+  pub underscore : IsName (codes "_")
+  pub first_keyword : IsName (codes "module") → ⊥
+  pub last_keyword : IsName (codes "final_step") → ⊥
+  pub access : IsName (codes "V") → ⊥
+  pub discipline : IsName (codes "electrical") → ⊥
+  pub digit_first : IsName (codes "1r") → ⊥
+  pub largest : IsWhole (codes "2147483647")
+  pub one_more : IsWhole (codes "2147483648") → ⊥
+  pub leading_zeros : IsWhole (codes "000")
+  pub mixed : IsWhole (codes "1r") → ⊥
+
+-- sums are read from left to right, products before sums, and a parameter by its number
+pub record WorkedSums : Type 0 where
+  pub differences_from_the_left : rows_of differences (pos 7) (pos 2) (pos 1) ≡ pos 4 ∷ negsuc 3 ∷ []
+  pub product_first : rows_of product_added (pos 2) (pos 3) (pos 4) ≡ pos 14 ∷ negsuc 13 ∷ []
+  pub parentheses_first : rows_of sum_multiplied (pos 2) (pos 3) (pos 4) ≡ pos 20 ∷ negsuc 19 ∷ []
+  -- 12 / 2 / 3 modulo 1000003
+  pub quotients_from_the_left : residuals (form_of three_names quotients) ℕ residue_ops (values 12 2 3) (λ _. 0) ≡ 2 ∷ 1000001 ∷ []
