@@ -1,0 +1,4 @@
+pub mod Pieces
+pub mod Separators
+pub mod Tokens
+pub mod Worked
