@@ -1,0 +1,9 @@
+pub mod Lexemes
+pub mod Reading
+pub mod Definitions
+pub mod Conditionals
+pub mod Uses
+pub mod Expansion
+pub mod Laws
+pub mod SmallTexts
+pub mod Worked
