@@ -1,0 +1,11 @@
+pub mod Declarations
+pub mod Depths
+pub mod ExpressionLaws
+pub mod Expressions
+pub mod Nodes
+pub mod Parts
+pub mod Preorder
+pub mod Size
+pub mod StatementLaws
+pub mod Statements
+pub mod Worked
