@@ -1,0 +1,84 @@
+#!/usr/bin/env python3
+"""Times `vaosdi compile` on texts of the first form, each at n and 2n, and prints seconds and peak memory.
+
+    bench/first_path.py [--runs 3]
+
+Both are to grow in step with the text: for twice the text by a factor of at most 2.2. Texts of a few kilobytes take
+about as long as starting a program does, so their factors lie below. Nothing is kept: the texts are made in a fresh
+folder. It ends with status 1 where a factor is above.
+"""
+import argparse
+import os
+import sys
+import tempfile
+import time
+
+TOP = os.path.dirname(os.path.dirname(os.path.abspath(__file__)))
+PROGRAM = os.path.join(TOP, 'crates', 'vaosdi', 'out', 'vaosdi')
+MOST = 2.2
+# Below this many seconds a time says nothing of the text.
+FLOOR = 0.02
+
+
+def text_of(params, terms):
+    """A module with so many parameters, and a sum of so many products of them."""
+    names = [f'p{i}' for i in range(params)]
+    lines = ['module m(a, c);', 'inout a, c;', 'electrical a, c;']
+    lines += [f'parameter real {name} = {i + 1};' for i, name in enumerate(names)]
+    signs = ['+', '-']
+    total = 'V(a, c)'
+    parts = [total] + [f'{signs[i % 2]} V(a, c) * {names[i * 7919 % params]}' for i in range(terms)]
+    lines.append('analog I(a, c) <+ ' + '\n'.join(parts) + ';')
+    lines.append('endmodule')
+    return '\n'.join(lines) + '\n'
+
+
+def measured(folder, text, runs):
+    """The least seconds, and the peak memory in MB, of so many runs."""
+    with open(os.path.join(folder, 'm.va'), 'w') as file:
+        file.write(text)
+    best, peak = None, 0
+    for _ in range(runs):
+        start = time.perf_counter()
+        child = os.fork()
+        if child == 0:
+            os.chdir(folder)
+            null = os.open(os.devnull, os.O_WRONLY)
+            os.dup2(null, 1)
+            os.dup2(null, 2)
+            os.execv(PROGRAM, [PROGRAM, 'compile', 'm.va'])
+        _, status, usage = os.wait4(child, 0)
+        seconds = time.perf_counter() - start
+        best = seconds if best is None else min(best, seconds)
+        peak = max(peak, usage.ru_maxrss / 1024)
+    return os.waitstatus_to_exitcode(status), best, peak
+
+
+def main():
+    words = argparse.ArgumentParser(description=__doc__, formatter_class=argparse.RawDescriptionHelpFormatter)
+    words.add_argument('--runs', type=int, default=3)
+    runs = words.parse_args().runs
+    if not os.access(PROGRAM, os.X_OK):
+        print('bench: the program is not built')
+        return 0
+    cases = [(f'{n} parameters', n, lambda n: text_of(n, 100), 0) for n in (10, 1000, 2000)]
+    cases += [(f'{n} terms', n, lambda n: text_of(10, n), 0) for n in (1000, 10000, 100000)]
+    cases += [(f'{n} MB of spaces', n, lambda n: ' ' * (n << 20), 1) for n in (1, 4, 8)]
+    late = 0
+    print(f'{"text":>20} {"n: s":>9} {"MB":>8} {"2n: s":>9} {"MB":>8} {"s":>6} {"MB":>6}')
+    with tempfile.TemporaryDirectory() as folder:
+        for name, n, make, wanted in cases:
+            first, one, small = measured(folder, make(n), runs)
+            second, two, large = measured(folder, make(2 * n), runs)
+            times = two / one if two > FLOOR else 1.0
+            sizes = large / small
+            note = '' if times <= MOST and sizes <= MOST else '  above'
+            if (first, second) != (wanted, wanted):
+                note += f'  status {first}, {second}'
+            late += bool(note)
+            print(f'{name:>20} {one:9.3f} {small:8.1f} {two:9.3f} {large:8.1f} {times:6.2f} {sizes:6.2f}{note}')
+    return 1 if late else 0
+
+
+if __name__ == '__main__':
+    sys.exit(main())

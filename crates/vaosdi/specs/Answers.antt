@@ -1,0 +1,161 @@
+-- What the program answers: how it ends, what it writes, and from which cause.
+use Rattle.std.specs.Prelude.{◌≡◌, ◌<◌, ◌⊎◌, ℕ, List, ◌++◌, length, Option, Some, None, codes}
+use Rattle.alg_laws.specs.Operations.{Operations}
+use Rattle.c_tree.specs.declared.short.ShortModule.{ShortModule}
+use Rattle.c_tree.specs.short.Text.{text_of}
+use Rattle.first_form.specs.Form.{FirstForm, IsTextOf}
+use Rattle.first_form.specs.Translation.{IsTranslation}
+use Rattle.va_io.specs.Outside.{Holdings, held, Lacks, Appends, AppendsSome, Rose}
+use Rattle.vaosdi.specs.Requests.{Request, compile, IsRequest, IsNoRequest}
+use Rattle.vaosdi.specs.declared.status.Status.{Status}
+use Rattle.vaosdi.specs.declared.status.Status.TheVariants.{Done, Refused, Usage, NoFile, ReadFault, WriteFault, NoMemory}
+
+-- where it is told what files hold, the file of a name has these bytes
+abbrev pub HasFile : Option Holdings → List ℕ → List ℕ → Type 0
+HasFile None name source = Unit {0}
+HasFile (Some files) name source = held files name ≡ Some source
+
+-- where it is told, a file of this name is there, and no text of the first form
+abbrev pub IsNotBuilt : Option Holdings → List ℕ → Type 0
+IsNotBuilt None name = Unit {0}
+IsNotBuilt (Some files) name =
+    (source : List ℕ) × (held files name ≡ Some source) × ((form : FirstForm) → IsTextOf source form → ⊥)
+
+-- The C text is the print of a file that is a translation of the source: each run of it loads the residuals that the
+-- source contributes, over every algebra.
+pub record IsCompiled {V : Type 0} (o : Operations V) (valid : V → Type 0) (source text : List ℕ) : Type 0 where
+  pub modules : List ShortModule
+  pub translation : IsTranslation o valid source modules
+  pub print : text ≡ text_of modules
+
+-- the output of a request
+abbrev pub IsOutput : {V : Type 0} → Operations V → (V → Type 0) → Option Holdings → Request → List ℕ → Type 0
+IsOutput o valid holds (compile file) text = (source : List ℕ) × HasFile holds file source × IsCompiled o valid source text
+
+-- the line for the fault that stands in what a request reads
+abbrev pub IsFaultLine : Option Holdings → Request → List ℕ → Type 0
+IsFaultLine holds (compile file) text = IsNotBuilt holds file × (text ≡ file ++ codes ":1:1: Unbuilt\n")
+
+-- a file that is read for a request by the words themselves, not by an include
+abbrev pub IsAsked : Request → List ℕ → Type 0
+IsAsked (compile file) name = name ≡ file
+
+abbrev pub usage_line : List ℕ
+usage_line = codes "usage: vaosdi compile|check|tables|read FILE, or eval FILE POINT, or make|work N\n"
+
+-- The text that is due where a request ends with a status: an output, or the reason why there is none. The files' count
+-- of faults is that before the call and that after it.
+module _ {V : Type 0} (o : Operations V) (valid : V → Type 0) (holds : Option Holdings) (before now : ℕ) where
+  abbrev pub IsDueFor : Request → Status → List ℕ → Type 0
+  IsDueFor request Done text = IsOutput o valid holds request text
+  IsDueFor request Refused text = IsFaultLine holds request text
+  IsDueFor request NoFile text =
+      (name : List ℕ) × IsAsked request name × (Lacks holds name ⊎ Rose before now) × (text ≡ name ++ codes ": no such file\n")
+  IsDueFor request ReadFault text =
+      (name : List ℕ) × IsAsked request name × Rose before now × (text ≡ name ++ codes ": read fault\n")
+  IsDueFor request Usage text = ⊥
+  IsDueFor request WriteFault text = ⊥
+  IsDueFor request NoMemory text = ⊥
+
+  -- the same for words, which may make no request
+  abbrev pub IsDue : List (List ℕ) → Status → List ℕ → Type 0
+  IsDue words Usage text = IsNoRequest words × (text ≡ usage_line)
+  IsDue words status text = (request : Request) × IsRequest words request × IsDueFor request status text
+
+-- The text that is due where a file of this name with these bytes is compiled.
+abbrev pub IsDueOfSource : {V : Type 0} → Operations V → (V → Type 0) → List ℕ → List ℕ → Status → List ℕ → Type 0
+IsDueOfSource o valid file source Done text = IsCompiled o valid source text
+IsDueOfSource o valid file source Refused text =
+    ((form : FirstForm) → IsTextOf source form → ⊥) × (text ≡ file ++ codes ":1:1: Unbuilt\n")
+IsDueOfSource o valid file source _ text = ⊥
+
+-- the reason why there is no output is written
+abbrev pub IsComplaint : Status → Type 0
+IsComplaint Refused = Unit {0}
+IsComplaint Usage = Unit {0}
+IsComplaint NoFile = Unit {0}
+IsComplaint ReadFault = Unit {0}
+IsComplaint Done = ⊥
+IsComplaint WriteFault = ⊥
+IsComplaint NoMemory = ⊥
+
+-- what is seen of a sink over a call: what was written before it and is after it, its count of faults likewise, and its
+-- room at the call
+pub record Seen : Type 0 where
+  pub before : Option (List ℕ)
+  pub now : Option (List ℕ)
+  pub faults_before : ℕ
+  pub faults_now : ℕ
+  pub room : ℕ
+
+abbrev pub seen : Option (List ℕ) → Option (List ℕ) → ℕ → ℕ → ℕ → Seen
+seen before now faults_before faults_now room =
+    record { before = before; now = now; faults_before = faults_before; faults_now = faults_now; room = room }
+
+-- nothing was written
+abbrev pub IsUntouched : Seen → Type 0
+IsUntouched sink = sink.now ≡ sink.before
+
+-- a whole text of this kind was written
+abbrev pub Writes : (List ℕ → Type 0) → Seen → Type 0
+Writes P sink = (text : List ℕ) × P text × Appends sink.before sink.now text
+
+-- the first part of a text of this kind was written, and then the sink failed
+abbrev pub Fails : (List ℕ → Type 0) → Seen → Type 0
+Fails P sink =
+    (text : List ℕ) × P text × AppendsSome sink.before sink.now text × (0 < length text) × Rose sink.faults_before sink.faults_now
+
+-- the first part of a text of this kind was written, which is longer than the room
+abbrev pub RunsShort : (List ℕ → Type 0) → Seen → Type 0
+RunsShort P sink = (text : List ℕ) × P text × AppendsSome sink.before sink.now text × (sink.room < length text)
+
+-- a text that is due as a reason
+abbrev pub IsReason : (Status → List ℕ → Type 0) → List ℕ → Type 0
+IsReason due text = (status : Status) × IsComplaint status × due status text
+
+-- How a command ends, where these texts are due, with what it wrote to the output and to the reasons. A call that is
+-- refused memory before a text is built writes nothing.
+module _ (due : Status → List ℕ → Type 0) (out err : Seen) where
+  abbrev pub Ends : Status → Type 0
+  Ends Done = Writes (due Done) out × IsUntouched err
+  Ends Refused = Writes (due Refused) err × IsUntouched out
+  Ends Usage = Writes (due Usage) err × IsUntouched out
+  Ends NoFile = Writes (due NoFile) err × IsUntouched out
+  Ends ReadFault = Writes (due ReadFault) err × IsUntouched out
+  Ends WriteFault = (Fails (due Done) out × IsUntouched err) ⊎ (Fails (IsReason due) err × IsUntouched out)
+  Ends NoMemory =
+      (IsUntouched out × IsUntouched err) ⊎ (RunsShort (due Done) out × IsUntouched err)
+      ⊎ (RunsShort (IsReason due) err × IsUntouched out)
+
+-- how a call ends that writes an output, and one that writes a reason for a status
+abbrev pub EndsOutput : List ℕ → Seen → Status → Type 0
+EndsOutput text out Done = Appends out.before out.now text
+EndsOutput text out WriteFault = AppendsSome out.before out.now text × (0 < length text) × Rose out.faults_before out.faults_now
+EndsOutput text out NoMemory = AppendsSome out.before out.now text × (out.room < length text)
+EndsOutput text out _ = ⊥
+
+abbrev pub EndsReason : List ℕ → Status → Seen → Status → Type 0
+EndsReason text status err WriteFault = AppendsSome err.before err.now text × (0 < length text) × Rose err.faults_before err.faults_now
+EndsReason text status err NoMemory = AppendsSome err.before err.now text × (err.room < length text)
+EndsReason text status err ended = (ended ≡ status) × Appends err.before err.now text
+
+-- it is told what files hold, and this is so of it
+abbrev pub Tells : Option Holdings → (Holdings → Type 0) → Type 0
+Tells None P = ⊥
+Tells (Some files) P = P files
+
+-- What is told of the files and the words decides how a command ends where no count rose, but for want of memory. Words
+-- that make no request need nothing told.
+abbrev pub IsExpected : Option Holdings → List (List ℕ) → Status → Type 0
+IsExpected holds words Done =
+    (file : List ℕ) × IsRequest words (compile file) × Tells holds (λ files.
+    (source : List ℕ) × (held files file ≡ Some source) × ((form : FirstForm) × IsTextOf source form))
+IsExpected holds words Refused =
+    (file : List ℕ) × IsRequest words (compile file) × Tells holds (λ files.
+    (source : List ℕ) × (held files file ≡ Some source) × ((form : FirstForm) → IsTextOf source form → ⊥))
+IsExpected holds words NoFile =
+    (file : List ℕ) × IsRequest words (compile file) × Tells holds (λ files. held files file ≡ None)
+IsExpected holds words Usage = IsNoRequest words
+IsExpected holds words ReadFault = ⊥
+IsExpected holds words WriteFault = ⊥
+IsExpected holds words NoMemory = ⊥
