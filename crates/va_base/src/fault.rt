@@ -67,7 +67,7 @@ pub enum FaultCode {
     DisciplinesDiffer,
     /// A port has no discipline.
     NotDeclaredNode,
-    /// A function calls itself, through others or directly.
+    /// A function is called from one that it reaches by calls.
     FunctionCycle,
     /// What the language has and this compiler leaves out.
     OutOfProfile,

@@ -1,6 +1,7 @@
 //! Laws, and rows that were worked out by hand, as contracts: the definitions compute to them.
 ghost use Rattle.va_base.specs.Longest.{FindsLongest};
 ghost use Rattle.va_base.specs.Worked.{WorkedDecimals};
+ghost use Rattle.va_base.specs.WorkedTables.{WorkedTables};
 
 /// What `longest` computes is the longest front that passes, wherever one does.
 #[tactic(auto, using(crate::proofs::Longest::finds_longest))]
@@ -13,3 +14,20 @@ pub fn longest_fronts_are_found()
 pub fn decimals_worked_by_hand()
     ensures { WorkedDecimals }
 {}
+
+/// The text of the tables of two modules.
+pub fn tables_worked_by_hand()
+    ensures { WorkedTables }
+{}
+
+#[cfg(test)]
+mod tests {
+    use super::*;
+
+    #[test]
+    fn worked_rows_hold(_rt: HostRuntime) {
+        longest_fronts_are_found();
+        decimals_worked_by_hand();
+        tables_worked_by_hand();
+    }
+}
