@@ -1,0 +1,123 @@
+-- Modules with time derivatives, potential branches, collapsing branches and parameters, with values worked out by hand modulo
+-- 1000003. Above each row stands the text of the module's items.
+use Rattle.std.specs.Prelude.{◌≡◌, ℕ, pos, true, false, List, [], ◌∷◌, Some, None, codes}
+use Rattle.alg_laws.specs.declared.number.Number.TheVariants.{Real, Int}
+use Rattle.alg_laws.specs.declared.number.Reason.TheVariants.{IntRange}
+use Rattle.alg_laws.specs.Outcome.{gives, ends}
+use Rattle.va_tree.specs.declared.expr.BinaryOp.TheVariants.{Greater, Add, Multiply, Divide}
+use Rattle.va_tree.specs.declared.module.Item.{Item}
+use Rattle.va_tree.specs.declared.module.Ty.TheVariants as ty
+use Rattle.va_examples.specs.Notation.{Text, whole, name, infinity, between, expression, system, of, across, contribute, contribute_alone, begins, if_only, if_or_else, defaulted, from, excluding, parameters, instance_parameters, alias, branch, node, analog}
+use Rattle.va_examples.specs.Examples.{v_a, to_a, to_a_c, by_default, on_model, on_instance, part, rows_at, flags_at, errors_at, columns_at}
+
+abbrev real_parameter : ℕ → List ℕ → Text Item
+real_parameter value p = parameters false (Some ty.Real) (defaulted p (whole value) [] ∷ [])
+
+-- parameter real l = 3; branch (a, c) b; analog V(b) <+ l * ddt(I(b));
+abbrev inductor : List (Text Item)
+inductor =
+    real_parameter 3 (codes "l")
+    ∷ branch (codes "a") (codes "c") (codes "b")
+    ∷ analog (contribute_alone (codes "V") (codes "b") (between (name (codes "l")) Multiply (of (codes "ddt") (of (codes "I") (name (codes "b"))))))
+    ∷ []
+
+-- parameter real p = 3; analog I(a) <+ V(a) + ddt(p * V(a) * V(a));
+abbrev charge : List (Text Item)
+charge =
+    real_parameter 3 (codes "p")
+    ∷ analog (to_a (between v_a Add (of (codes "ddt") (between (between (name (codes "p")) Multiply v_a) Multiply v_a))))
+    ∷ []
+
+-- Time derivatives and potential branches.
+pub record WorkedDerivatives : Type 0 where
+  pub inductor_rows : rows_at inductor by_default (5 ∷ 3 ∷ 7 ∷ []) ≡ gives (part 7 0 ∷ part 999996 0 ∷ part 2 999982 ∷ [])
+  pub inductor_columns : columns_at inductor by_default (5 ∷ 3 ∷ 7 ∷ [])
+      ≡ gives ((part 0 0 ∷ part 0 0 ∷ part 1 0 ∷ [])
+      ∷ (part 0 0 ∷ part 0 0 ∷ part 1000002 0 ∷ [])
+      ∷ (part 1 0 ∷ part 1000002 0 ∷ part 0 1000000 ∷ [])
+      ∷ [])
+  pub charge_rows : rows_at charge by_default (5 ∷ 0 ∷ []) ≡ gives (part 5 75 ∷ part 0 0 ∷ [])
+  pub charge_columns : columns_at charge by_default (5 ∷ 0 ∷ [])
+      ≡ gives ((part 1 30 ∷ part 0 0 ∷ []) ∷ (part 0 0 ∷ part 0 0 ∷ []) ∷ [])
+
+-- electrical i; parameter real r = 0; analog begin if (r > 0) I(a, i) <+ V(a, i) / r; else V(a, i) <+ 0; I(i, c) <+ V(i, c); end
+abbrev series : List (Text Item)
+series =
+    node (codes "i")
+    ∷ real_parameter 0 (codes "r")
+    ∷ analog
+    (begins
+    (if_or_else (between (name (codes "r")) Greater (whole 0))
+    (contribute (codes "I") (codes "a") (codes "i") (between (across (codes "V") (codes "a") (codes "i")) Divide (name (codes "r"))))
+    (contribute (codes "V") (codes "a") (codes "i") (whole 0))
+    ∷ contribute (codes "I") (codes "i") (codes "c") (across (codes "V") (codes "i") (codes "c"))
+    ∷ []))
+    ∷ []
+
+-- analog begin I(a, c) <+ 1; V(a, c) <+ 0; I(a, c) <+ 2; end
+abbrev discarded : List (Text Item)
+discarded = analog (begins (to_a_c (whole 1) ∷ contribute (codes "V") (codes "a") (codes "c") (whole 0) ∷ to_a_c (whole 2) ∷ [])) ∷ []
+
+-- analog begin V(a, c) <+ 0; if (V(a) > 0) I(a, c) <+ 7; end
+abbrev mark_and_flow : List (Text Item)
+mark_and_flow = analog (begins (contribute (codes "V") (codes "a") (codes "c") (whole 0) ∷ if_only (between v_a Greater (whole 0)) (to_a_c (whole 7)) ∷ [])) ∷ []
+
+-- Branches that collapse.
+pub record WorkedCollapses : Type 0 where
+  pub collapsed : rows_at series by_default (5 ∷ 3 ∷ 4 ∷ []) ≡ gives (part 0 0 ∷ part 1000002 0 ∷ part 1 0 ∷ [])
+  pub collapsed_flag : flags_at series by_default (5 ∷ 3 ∷ 4 ∷ []) ≡ gives (true ∷ [])
+  pub with_resistance : rows_at series (on_model (Some (Real 2) ∷ [])) (5 ∷ 3 ∷ 4 ∷ [])
+      ≡ gives (part 500002 0 ∷ part 1000002 0 ∷ part 500002 0 ∷ [])
+  pub with_resistance_flag : flags_at series (on_model (Some (Real 2) ∷ [])) (5 ∷ 3 ∷ 4 ∷ []) ≡ gives (false ∷ [])
+  pub other_quantity_discards : rows_at discarded by_default (5 ∷ 3 ∷ []) ≡ gives (part 2 0 ∷ part 1000001 0 ∷ [])
+  pub flow_takes_the_mark_away : flags_at discarded by_default (5 ∷ 3 ∷ []) ≡ gives (false ∷ [])
+  pub flow_under_a_biased_condition : rows_at mark_and_flow by_default (5 ∷ 3 ∷ []) ≡ gives (part 7 0 ∷ part 999996 0 ∷ [])
+  pub no_flow_where_it_fails : rows_at mark_and_flow by_default (999998 ∷ 3 ∷ []) ≡ gives (part 0 0 ∷ part 0 0 ∷ [])
+  pub mark_reads_no_unknown : flags_at mark_and_flow by_default (5 ∷ 3 ∷ []) ≡ gives (true ∷ [])
+  pub mark_at_other_unknowns : flags_at mark_and_flow by_default (999998 ∷ 3 ∷ []) ≡ gives (true ∷ [])
+
+-- parameter real w = 0 from [0:1) exclude 5; parameter integer k = 2 from [0:10] exclude 3; aliasparam kk = k; analog I(a) <+ k;
+abbrev ranges : List (Text Item)
+ranges =
+    parameters false (Some ty.Real) (defaulted (codes "w") (whole 0) (from true (whole 0) (whole 1) false ∷ excluding (whole 5) ∷ []) ∷ [])
+    ∷ parameters false (Some ty.Integer) (defaulted (codes "k") (whole 2) (from true (whole 0) (whole 10) true ∷ excluding (whole 3) ∷ []) ∷ [])
+    ∷ alias (codes "kk") (codes "k")
+    ∷ analog (to_a (name (codes "kk")))
+    ∷ []
+
+-- parameter real p = 2; localparam real h = p * p; analog I(a) <+ h * V(a);
+abbrev derived : List (Text Item)
+derived =
+    real_parameter 2 (codes "p")
+    ∷ parameters true (Some ty.Real) (defaulted (codes "h") (between (name (codes "p")) Multiply (name (codes "p"))) [] ∷ [])
+    ∷ analog (to_a (between (name (codes "h")) Multiply v_a))
+    ∷ []
+
+-- parameter integer z = 0; (* type = "instance" *) parameter integer s = 1 / z; analog I(a) <+ s;
+abbrev level_alone : List (Text Item)
+level_alone =
+    parameters false (Some ty.Integer) (defaulted (codes "z") (whole 0) [] ∷ [])
+    ∷ instance_parameters (Some ty.Integer) (defaulted (codes "s") (between (whole 1) Divide (name (codes "z"))) [] ∷ [])
+    ∷ analog (to_a (name (codes "s")))
+    ∷ []
+
+-- parameter real p = 1; analog I(a) <+ $param_given(p);
+abbrev asks_for_it : List (Text Item)
+asks_for_it = real_parameter 1 (codes "p") ∷ analog (to_a (system (codes "$param_given") (expression (name (codes "p")) ∷ []))) ∷ []
+
+-- parameter integer k = 4 from (4:inf); analog I(a) <+ 0;
+abbrev open_end : List (Text Item)
+open_end = parameters false (Some ty.Integer) (defaulted (codes "k") (whole 4) (from false (whole 4) infinity false ∷ []) ∷ []) ∷ analog (to_a (whole 0)) ∷ []
+
+-- Set-up.
+pub record WorkedSetUps : Type 0 where
+  pub both_out_of_range : errors_at ranges (on_model (Some (Real 1) ∷ Some (Int (pos 3)) ∷ [])) (0 ∷ 0 ∷ []) ≡ gives (0 ∷ 1 ∷ [])
+  pub evaluation_goes_on : rows_at ranges (on_model (Some (Real 1) ∷ Some (Int (pos 3)) ∷ [])) (0 ∷ 0 ∷ []) ≡ gives (part 3 0 ∷ part 0 0 ∷ [])
+  pub both_in_range : errors_at ranges (on_model (Some (Real 0) ∷ Some (Int (pos 10)) ∷ [])) (0 ∷ 0 ∷ []) ≡ gives []
+  pub open_end_is_outside : errors_at open_end by_default (0 ∷ 0 ∷ []) ≡ gives (0 ∷ [])
+  pub infinite_end_tests_nothing : errors_at open_end (on_model (Some (Int (pos 5)) ∷ [])) (0 ∷ 0 ∷ []) ≡ gives []
+  pub default_follows : rows_at derived (on_model (Some (Real 3) ∷ [])) (5 ∷ 0 ∷ []) ≡ gives (part 45 0 ∷ part 0 0 ∷ [])
+  pub undefined_on_the_model : rows_at level_alone (on_instance (None ∷ Some (Int (pos 1)) ∷ [])) (0 ∷ 0 ∷ []) ≡ ends IntRange
+  pub given_on_the_model : rows_at level_alone (on_model (None ∷ Some (Int (pos 1)) ∷ [])) (0 ∷ 0 ∷ []) ≡ gives (part 1 0 ∷ part 0 0 ∷ [])
+  pub was_not_given : rows_at asks_for_it by_default (0 ∷ 0 ∷ []) ≡ gives (part 0 0 ∷ part 0 0 ∷ [])
+  pub was_given : rows_at asks_for_it (on_model (Some (Real 1) ∷ [])) (0 ∷ 0 ∷ []) ≡ gives (part 1 0 ∷ part 0 0 ∷ [])

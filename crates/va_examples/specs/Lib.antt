@@ -1,0 +1,5 @@
+pub mod DynamicExamples
+pub mod Examples
+pub mod LanguageExamples
+pub mod Notation
+pub mod StaticExamples

@@ -1,0 +1,4 @@
+//! Worked examples of what small modules mean.
+#![tactic(auto)]
+
+pub mod worked;

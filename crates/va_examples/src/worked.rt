@@ -1,0 +1,67 @@
+//! What small modules mean, worked out by hand, as contracts: the definitions compute to it.
+ghost use Rattle.va_examples.specs.DynamicExamples.{WorkedCollapses, WorkedDerivatives, WorkedSetUps};
+ghost use Rattle.va_examples.specs.LanguageExamples.{WorkedModules, WorkedOperators, WorkedStatements};
+ghost use Rattle.va_examples.specs.StaticExamples.{WorkedCalls, WorkedLoops, WorkedStraight};
+
+/// Residuals and Jacobians of straight code and conditions.
+pub fn straight_code_worked_by_hand()
+    ensures { WorkedStraight }
+{}
+
+/// Loops, choices, and what makes an evaluation undefined.
+pub fn loops_worked_by_hand()
+    ensures { WorkedLoops }
+{}
+
+/// Calls of functions.
+pub fn calls_worked_by_hand()
+    ensures { WorkedCalls }
+{}
+
+/// Time derivatives and potential branches.
+pub fn derivatives_worked_by_hand()
+    ensures { WorkedDerivatives }
+{}
+
+/// Branches that collapse.
+pub fn collapses_worked_by_hand()
+    ensures { WorkedCollapses }
+{}
+
+/// Parameters: given values, defaults, ranges.
+pub fn set_ups_worked_by_hand()
+    ensures { WorkedSetUps }
+{}
+
+/// Operators on integers and reals.
+pub fn operators_worked_by_hand()
+    ensures { WorkedOperators }
+{}
+
+/// Statements one by one.
+pub fn statements_worked_by_hand()
+    ensures { WorkedStatements }
+{}
+
+/// Functions, branches and levels of parameters.
+pub fn modules_worked_by_hand()
+    ensures { WorkedModules }
+{}
+
+#[cfg(test)]
+mod tests {
+    use super::*;
+
+    #[test]
+    fn worked_rows_hold(_rt: HostRuntime) {
+        straight_code_worked_by_hand();
+        loops_worked_by_hand();
+        calls_worked_by_hand();
+        derivatives_worked_by_hand();
+        collapses_worked_by_hand();
+        set_ups_worked_by_hand();
+        operators_worked_by_hand();
+        statements_worked_by_hand();
+        modules_worked_by_hand();
+    }
+}

@@ -1,0 +1,12 @@
+pub mod Elaborated
+pub mod EvaluationLaws
+pub mod Fixed
+pub mod Invariants
+pub mod MoreTurns
+pub mod Nesting
+pub mod Partial
+pub mod Related
+pub mod TypedStores
+pub mod SetUpLaws
+pub mod TypeLaws
+pub mod Types

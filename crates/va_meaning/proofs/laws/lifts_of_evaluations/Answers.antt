@@ -1,0 +1,9 @@
+use Rattle.alg_laws.specs.AtFour.{at_three}
+use Rattle.va_meaning.specs.EvaluationLaws.{LiftsOfEvaluations}
+use Rattle.va_meaning.proofs.EvaluationLaws.{lifts_of_evaluations}
+use Rattle.va_meaning.proofs.laws.lifts_of_evaluations.Goals as goal
+
+pub returns : goal.returns
+returns g c =
+    let a = g.A.Algebra in
+    at_three a.ops a.valid a.unit a.laws LiftsOfEvaluations (λ D e v u l. lifts_of_evaluations e v u l)

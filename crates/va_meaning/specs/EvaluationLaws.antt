@@ -1,0 +1,116 @@
+-- What holds of every evaluation over every algebra.
+use Rattle.std.specs.Prelude.{◌≡◌, ℕ, ◌≤◌, Bool, List, All, length}
+use Rattle.alg_laws.specs.declared.dual.Dual.{Dual}
+use Rattle.alg_laws.specs.declared.number.Number.{Number}
+use Rattle.alg_laws.specs.declared.number.Reason.TheVariants.{IntRange}
+use Rattle.alg_laws.specs.Dual.{dual, lift}
+use Rattle.alg_laws.specs.NumberParts.{main_of, NumberValid}
+use Rattle.alg_laws.specs.Operations.{Operations}
+use Rattle.alg_laws.specs.Outcome.{gives, ends}
+use Rattle.alg_laws.specs.Related.{OutcomesRelated, ListsRelated, HasMain, IsLifted, Parts}
+use Rattle.va_sem.specs.declared.names.ModuleNames.{ModuleNames}
+use Rattle.va_sem.specs.Declarations.{analog_bodies}
+use Rattle.va_sem.specs.rules.Biased.{analysis_of}
+use Rattle.va_sem.specs.rules.RuleLaws.{AreNumbered}
+use Rattle.va_tree.specs.declared.module.Module.{Module}
+use Rattle.va_meaning.specs.Elaboration.{elaborated}
+use Rattle.va_meaning.specs.Bias.{KeepsToBias, SameFixed}
+use Rattle.va_meaning.specs.Elaborated.{Elaborated}
+use Rattle.va_meaning.specs.Evaluation.{evaluated, functions, functions_to}
+use Rattle.va_meaning.specs.Nesting.{IsWithoutCycle}
+use Rattle.va_meaning.specs.Points.{Point, State, over, at_unknowns, without_unknowns}
+use Rattle.va_meaning.specs.Related.{StatesRelated}
+use Rattle.va_meaning.specs.Residuals.{lifted_point, moved_point, residual_parts}
+use Rattle.va_meaning.specs.Rows.{residuals}
+use Rattle.va_meaning.specs.Values.{Result}
+
+-- the mains of a point
+abbrev pub main_point : {V : Type 0} → Point (Dual V) → Point V
+main_point P = record {
+  parameters = λ p. main_of (P.parameters p);
+  given = P.given;
+  temperature = P.temperature.main;
+  unknowns = λ i. (P.unknowns i).main;
+}
+
+-- Over dual numbers an evaluation has the mains that it has below: both are undefined for the same reason, or all variables, what
+-- all branches hold, and all residuals have these mains. The marks and the integers are the same.
+pub record MainsOfEvaluations (V : Type 0) (o : Operations V) (valid : V → Type 0) : Type 0 where
+  pub evaluation : (M : Elaborated) (s : Dual V) (P : Point (Dual V)) (n : ℕ) (answers : ℕ → Dual V)
+      → OutcomesRelated (StatesRelated HasMain) (evaluated M (over (dual o) s P n answers))
+      (evaluated M (over o s.main (main_point P) n (λ k. (answers k).main)))
+  pub residuals : (M : Elaborated) (s : Dual V) (P : Point (Dual V)) (n : ℕ) (answers : ℕ → Dual V)
+      → OutcomesRelated (ListsRelated HasMain) (residuals M (over (dual o) s P n answers))
+      (residuals M (over o s.main (main_point P) n (λ k. (answers k).main)))
+
+-- points and states with valid values
+pub record PointValid {V : Type 0} (valid : V → Type 0) (P : Point V) : Type 0 where
+  pub parameters : (p : ℕ) → NumberValid valid (P.parameters p)
+  pub temperature : valid P.temperature
+  pub unknowns : (i : ℕ) → valid (P.unknowns i)
+
+pub record ContextValid {V : Type 0} (valid : V → Type 0) (s : V) (P : Point V) (answer : ℕ → V) : Type 0 where
+  pub derivative : valid s
+  pub point : PointValid valid P
+  pub answers : (k : ℕ) → valid (answer k)
+
+pub record StateValid {V : Type 0} (valid : V → Type 0) (s : State V) : Type 0 where
+  pub variables : (x : ℕ) → NumberValid valid (s.variables x)
+  pub held : (b : ℕ) → valid (s.held b).sum
+
+-- At a valid point an evaluation gives valid values alone.
+pub record ValidityOfEvaluations (V : Type 0) (o : Operations V) (valid : V → Type 0) : Type 0 where
+  pub evaluation : (M : Elaborated) (s : V) (P : Point V) (n : ℕ) (answers : ℕ → V) → ContextValid valid s P answers
+      → (last : State V) → evaluated M (over o s P n answers) ≡ gives last → StateValid valid last
+  pub residuals : (M : Elaborated) (s : V) (P : Point V) (n : ℕ) (answers : ℕ → V) → ContextValid valid s P answers
+      → (rows : List V) → residuals M (over o s P n answers) ≡ gives rows → All valid rows
+
+-- Where nothing moves, nothing does: over dual numbers at a lifted point every value is a lifted one, namely that of the
+-- evaluation below.
+pub record LiftsOfEvaluations (V : Type 0) (o : Operations V) (valid : V → Type 0) : Type 0 where
+  pub evaluation : (M : Elaborated) (s : V) (P : Point V) (n : ℕ) (answers : ℕ → V) → ContextValid valid s P answers
+      → OutcomesRelated (StatesRelated (IsLifted o valid))
+      (evaluated M (over (dual o) (lift o s) (lifted_point o P) n (λ k. lift o (answers k)))) (evaluated M (over o s P n answers))
+  pub residuals : (M : Elaborated) (s : V) (P : Point V) (n : ℕ) (answers : ℕ → V) → ContextValid valid s P answers
+      → OutcomesRelated (ListsRelated (IsLifted o valid))
+      (residuals M (over (dual o) (lift o s) (lifted_point o P) n (λ k. lift o (answers k)))) (residuals M (over o s P n answers))
+
+-- Where an unknown moves, the residuals in two parts have the mains that they have where none does. So a column of the Jacobian
+-- is defined exactly where the residuals are.
+pub record MainsOfParts (V : Type 0) (o : Operations V) (valid : V → Type 0) : Type 0 where
+  pub residuals : (M : Elaborated) (P : Point V) (n j : ℕ)
+      → OutcomesRelated (ListsRelated (Parts HasMain)) (residual_parts M (dual o) (moved_point o j P) n) (residual_parts M o P n)
+  -- and where no unknown moves, nothing is in their parts
+  pub lifted : (M : Elaborated) (P : Point V) (n : ℕ) → PointValid valid P
+      → OutcomesRelated (ListsRelated (Parts (IsLifted o valid))) (residual_parts M (dual o) (lifted_point o P) n) (residual_parts M o P n)
+
+-- An evaluation that is defined where loops make at most n turns is the same for every greater bound, and where it is undefined by
+-- an integer, it stays so.
+pub record BoundsOfEvaluations (V : Type 0) (o : Operations V) (valid : V → Type 0) : Type 0 where
+  pub evaluation : (M : Elaborated) (s : V) (P : Point V) (n m : ℕ) (answers : ℕ → V) → n ≤ m → (last : State V)
+      → evaluated M (over o s P n answers) ≡ gives last → evaluated M (over o s P m answers) ≡ gives last
+  pub residuals : (M : Elaborated) (s : V) (P : Point V) (n m : ℕ) (answers : ℕ → V) → n ≤ m → (rows : List V)
+      → residuals M (over o s P n answers) ≡ gives rows → residuals M (over o s P m answers) ≡ gives rows
+  pub undefined : (M : Elaborated) (s : V) (P : Point V) (n m : ℕ) (answers : ℕ → V) → n ≤ m
+      → evaluated M (over o s P n answers) ≡ ends IntRange → evaluated M (over o s P m answers) ≡ ends IntRange
+
+-- What a function gives is the same where functions are seen deeper. Where no function leads back to itself, it makes no
+-- difference at all how much deeper than their number the functions are seen.
+pub record DepthsOfFunctions (V : Type 0) (o : Operations V) (valid : V → Type 0) : Type 0 where
+  pub defined : (M : Elaborated) (s : V) (P : Point V) (n : ℕ) (answers : ℕ → V) (depth more : ℕ) → depth ≤ more → (f : ℕ) (outs : List (Result V))
+      → (v : Number V) → functions_to M (over o s P n answers) depth f outs ≡ gives v → functions_to M (over o s P n answers) more f outs ≡ gives v
+  pub deeper : (M : Elaborated) (s : V) (P : Point V) (n : ℕ) (answers : ℕ → V) → IsWithoutCycle M → (depth : ℕ)
+      → length M.functions ≤ depth → (f : ℕ) (outs : List (Result V))
+      → functions_to M (without_unknowns (over o s P n answers)) depth f outs ≡ functions M (over o s P n answers) f outs
+
+-- Where a module keeps to a set of biased variables, two defined evaluations at points that differ in unknowns alone end with the
+-- same fixed variables and the same marks of collapsing branches. Every module of a text keeps to those that are found by the rules.
+-- So set-up may find the collapse flags.
+pub record FixedOfEvaluations (V : Type 0) (o : Operations V) (valid : V → Type 0) : Type 0 where
+  pub evaluation : (M : Elaborated) (biased : ℕ → Bool) → KeepsToBias M biased → (s : V) (P : Point V) (n : ℕ) (answers unknowns : ℕ → V)
+      → (last other : State V) → evaluated M (over o s P n answers) ≡ gives last
+      → evaluated M (at_unknowns (over o s P n answers) unknowns) ≡ gives other → SameFixed M biased last other
+  pub modules : (names : ModuleNames) (m : Module) → AreNumbered names → (s : V) (P : Point V) (n : ℕ) (answers unknowns : ℕ → V)
+      → (last other : State V) → evaluated (elaborated names m) (over o s P n answers) ≡ gives last
+      → evaluated (elaborated names m) (at_unknowns (over o s P n answers) unknowns) ≡ gives other
+      → SameFixed (elaborated names m) (analysis_of names (analog_bodies m)).biased last other

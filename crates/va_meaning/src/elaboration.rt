@@ -1,0 +1,17 @@
+//! What holds of each module of a text as evaluation sees it.
+ghost use Rattle.va_meaning.specs.ElaborationLaws.{ElaborationLaws};
+
+/// A module has the types that are found for its names, and keeps to the biased variables that are found by the rules.
+pub fn modules_keep_types_and_bias()
+    ensures { ElaborationLaws }
+{}
+
+#[cfg(test)]
+mod tests {
+    use super::*;
+
+    #[test]
+    fn modules_keep_them(_rt: HostRuntime) {
+        modules_keep_types_and_bias();
+    }
+}

@@ -1,0 +1,16 @@
+pub mod Ascending
+pub mod Covering
+pub mod Earliest
+pub mod FirstOfEach
+pub mod KindsFound
+pub mod LookedAtArguments
+pub mod MeaningTable
+pub mod Modules
+pub mod Places
+pub mod RuleLaws
+pub mod Sets
+pub mod SomeKind
+pub mod Surveying
+pub mod TypesListed
+pub mod Visiting
+pub mod Walks
