@@ -5,15 +5,15 @@ use Rattle.std.specs.List.{zip}
 use Rattle.va_base.specs.declared.place.Place.{Place}
 use Rattle.va_base.specs.declared.token.Token.{Token}
 use Rattle.va_base.specs.declared.fault.FaultCode.TheVariants as code
-use Rattle.va_io.specs.Outside.{Holdings, held}
 use Rattle.va_preproc.specs.declared.directive.Directive.{Directive}
 use Rattle.va_preproc.specs.declared.directive.Directive.TheVariants.{Define, Undef, Ifdef, Ifndef, Elsif, Else, Endif, Include, Ignored}
 use Rattle.va_preproc.specs.Lexemes.{Bytes, Lexeme, lexemes_of, Role, line_end, a_directive, a_use, a_name, another, role_of, is_among}
 use Rattle.va_preproc.specs.Reading.{Macro, State, Step, ◌>>=◌, stopped, read_one, read_some, own_place}
 use Rattle.va_preproc.specs.Definitions.{next_token, file_name}
-use Rattle.va_preproc.specs.Conditionals.{Branch, is_skipped, Onward, meant}
+use Rattle.va_preproc.specs.declared.condition.Branch.{Branch}
+use Rattle.va_preproc.specs.Conditionals.{is_skipped, Onward, meant}
 use Rattle.va_preproc.specs.Uses.{Inside, Use, Opened, at_role, expand_list, expand_argument, expand_arguments, expand_body, matching, with_arguments, list_form, by_formals, open_use, unless_open, of_macro, checked_use, use_within}
-use Rattle.va_preproc.specs.Expansion.{Limits, included_name, onward, Included, skip_or, at_file_name, at_directive, at_outermost, at_token, expand_file, asking, start, unless_large, expand_bytes, include_of, include_within, ended, expansion_of}
+use Rattle.va_preproc.specs.Expansion.{Limits, Readings, included_name, onward, Included, skip_or, at_file_name, at_directive, at_outermost, at_token, expand_file, asking, start, unless_large, expand_bytes, include_of, include_within, ended, expansion_of}
 use Rattle.va_preproc.specs.Laws.{IsDeepCode, IsTooDeep, DepthsOnlyRefuse}
 
 abbrev pub IsDeep : {T : Type 0} → Step T → Type 0
@@ -212,32 +212,32 @@ module _ (a b : Use) (uses : UsesAgree a b) (x y : Included) (includes : Include
       (λ v. at_token_agrees (role_of t) t rest branches v))
       (λ next. expand_file_agrees next.taken rest next.branches next.state)
 
-module _ (most : Limits) (uses includes : ℕ) (tokens : ℕ → Bytes → List Token) (holds : Holdings) (more_uses : most.uses ≤ uses) where
+module _ (most : Limits) (uses includes : ℕ) (tokens : ℕ → Bytes → List Token) (readings : Readings) (more_uses : most.uses ≤ uses) where
   abbrev wider : Limits
   wider = record most { uses = uses; includes = includes }
 
   unless_large_agrees : (test : Bool) (x y : Included) → IncludesAgree x y → (name bytes : Bytes) (file : ℕ) (s : State)
-      → Agrees (unless_large most tokens holds test x name bytes file s) (unless_large wider tokens holds test y name bytes file s)
+      → Agrees (unless_large most tokens readings test x name bytes file s) (unless_large wider tokens readings test y name bytes file s)
   unless_large_agrees true x y agree name bytes file s = inr refl
   unless_large_agrees false x y agree name bytes file s =
       expand_file_agrees (use_within most.uses) (use_within uses) (uses_agree most.uses uses more_uses) x y agree name 0
       (lexemes_of bytes (tokens file bytes)) [] s
 
   expand_bytes_agrees : (x y : Included) → IncludesAgree x y → (name bytes : Bytes) (s : State)
-      → Agrees (expand_bytes most tokens holds x name bytes s) (expand_bytes wider tokens holds y name bytes s)
+      → Agrees (expand_bytes most tokens readings x name bytes s) (expand_bytes wider tokens readings y name bytes s)
   expand_bytes_agrees x y agree name bytes s =
       unless_large_agrees (nat_lt most.bytes (length bytes)) x y agree name bytes _ s
 
   include_of_agrees : (o : Option Bytes) (x y : Included) → IncludesAgree x y → (name : Bytes) (place : Place) (s : State)
-      → Agrees (include_of most tokens holds o x name place s) (include_of wider tokens holds o y name place s)
+      → Agrees (include_of most tokens readings o x name place s) (include_of wider tokens readings o y name place s)
   include_of_agrees None x y agree name place s = inr refl
   include_of_agrees (Some bytes) x y agree name place s = expand_bytes_agrees x y agree name bytes s
 
-  includes_agree : (n m : ℕ) → n ≤ m → IncludesAgree (include_within most tokens holds n) (include_within wider tokens holds m)
+  includes_agree : (n m : ℕ) → n ≤ m → IncludesAgree (include_within most tokens readings n) (include_within wider tokens readings m)
   includes_agree zero m h = λ name place s. inl (inr refl)
   includes_agree (suc n) zero h = absurd (not_less n h)
   includes_agree (suc n) (suc m) h = λ name place s.
-      include_of_agrees (held holds name) (include_within most tokens holds n) (include_within wider tokens holds m)
+      include_of_agrees (readings (length s.asked) name) (include_within most tokens readings n) (include_within wider tokens readings m)
       (includes_agree n m (both_less n m h)) name place (asking name s)
 
   ended_agrees : (bytes : Bytes) (m other : Step State) → Agrees m other
@@ -247,16 +247,16 @@ module _ (most : Limits) (uses includes : ℕ) (tokens : ℕ → Bytes → List 
   ended_agrees bytes m other (inr e) = inr (ap (ended bytes) e)
 
   expansion_agrees : most.includes ≤ includes → (o : Option Bytes) (main : Bytes)
-      → IsTooDeep (expansion_of o most tokens holds main)
-      ⊎ (expansion_of o wider tokens holds main ≡ expansion_of o most tokens holds main)
+      → IsTooDeep (expansion_of o most tokens readings main)
+      ⊎ (expansion_of o wider tokens readings main ≡ expansion_of o most tokens readings main)
   expansion_agrees more_includes None main = inr refl
   expansion_agrees more_includes (Some bytes) main =
       ended_agrees bytes
-      (expand_bytes most tokens holds (include_within most tokens holds most.includes) main bytes (asking main (start most)))
-      (expand_bytes wider tokens holds (include_within wider tokens holds includes) main bytes (asking main (start wider)))
-      (expand_bytes_agrees (include_within most tokens holds most.includes) (include_within wider tokens holds includes)
+      (expand_bytes most tokens readings (include_within most tokens readings most.includes) main bytes (asking main (start most)))
+      (expand_bytes wider tokens readings (include_within wider tokens readings includes) main bytes (asking main (start wider)))
+      (expand_bytes_agrees (include_within most tokens readings most.includes) (include_within wider tokens readings includes)
       (includes_agree most.includes includes more_includes) main bytes (asking main (start most)))
 
 pub depths_only_refuse : DepthsOnlyRefuse
-depths_only_refuse most uses includes tokens holds main more_uses more_includes =
-    expansion_agrees most uses includes tokens holds more_uses more_includes (held holds main) main
+depths_only_refuse most uses includes tokens readings main more_uses more_includes =
+    expansion_agrees most uses includes tokens readings more_uses more_includes (readings 0 main) main

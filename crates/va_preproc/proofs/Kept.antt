@@ -10,15 +10,15 @@ use Rattle.va_base.specs.declared.token.TokenKind.TheVariants.{Word, System, Tic
 use Rattle.va_base.specs.declared.fault.FaultCode.{FaultCode}
 use Rattle.va_base.specs.declared.fault.FaultCode.TheVariants as code
 use Rattle.va_base.specs.Expansion.{is_kept}
-use Rattle.va_io.specs.Outside.{Holdings, held}
 use Rattle.va_preproc.specs.declared.directive.Directive.{Directive}
 use Rattle.va_preproc.specs.declared.directive.Directive.TheVariants.{Define, Undef, Ifdef, Ifndef, Elsif, Else, Endif, Include, Ignored}
 use Rattle.va_preproc.specs.Lexemes.{Bytes, Lexeme, lexemes_of, Role, line_end, a_directive, a_use, a_name, another, role_by, role_of, tick_role, found, name_of}
 use Rattle.va_preproc.specs.Reading.{Macro, State, Stop, Step, ◌>>=◌, stopped, read_one_of, read_one, read_some, own_place, placed, give_to_result, give_where, give, give_all}
 use Rattle.va_preproc.specs.Definitions.{Form, line, next_token, macro_name, file_name, definition_form}
-use Rattle.va_preproc.specs.Conditionals.{Branch, is_skipped, Onward, meant, with_form, at_if, at_elsif, at_else, at_endif, all_closed, open_branch, unless_last}
+use Rattle.va_preproc.specs.declared.condition.Branch.{Branch}
+use Rattle.va_preproc.specs.Conditionals.{is_skipped, Onward, meant, with_form, at_if, at_elsif, at_else, at_endif, all_closed, open_branch, unless_last}
 use Rattle.va_preproc.specs.Uses.{list_form, Inside, Use, Opened, at_name, no_more, at_role, expand_list, expand_argument, expand_arguments, expand_body, matching, with_arguments, by_formals, open_use, unless_open, of_macro, checked_use, use_within}
-use Rattle.va_preproc.specs.Expansion.{Limits, with_macro, included_name, onward, Included, skip_or, at_define, at_undef, at_file_name, at_ignored, at_directive, at_outermost, at_token, expand_file, asking, first_place, unless_large, expand_bytes, include_of, include_within}
+use Rattle.va_preproc.specs.Expansion.{Limits, Readings, with_macro, included_name, onward, Included, skip_or, at_define, at_undef, at_file_name, at_ignored, at_directive, at_outermost, at_token, expand_file, asking, first_place, unless_large, expand_bytes, include_of, include_within}
 use Rattle.va_preproc.specs.Laws.{IsOriginal, ComesFrom, AreOfFiles}
 use Rattle.std.proofs.lemmas.List.{length-append}
 use Rattle.std.proofs.lemmas.Bool.{false≢true}
@@ -81,10 +81,10 @@ put_counted result t free more room h e = omega (arith, length-append result (t 
 few_counted : (taken free room : ℕ) → taken + free ≡ room → taken ≤ room
 few_counted taken free room e = omega arith
 
-module _ (tokens : ℕ → Bytes → List Token) (holds : Holdings) (room : ℕ) where
+module _ (tokens : ℕ → Bytes → List Token) (readings : Readings) (room : ℕ) where
   -- a token of a file that was read
   pub record IsSound (asked : List Bytes) (t : Lexeme) : Type 0 where
-    pub original : IsOriginal tokens holds asked t.token
+    pub original : IsOriginal tokens readings asked t.token
     pub no_end : t.token.kind ≡ End → ⊥
     pub in_file : InFile asked t.token.place
 
@@ -96,7 +96,7 @@ module _ (tokens : ℕ → Bytes → List Token) (holds : Holdings) (room : ℕ)
   -- what a state keeps
   pub record Keeps (s : State) : Type 0 where
     pub macros : (name : Bytes) → InOption (λ m. Each (IsSound s.asked) m.body) (s.macros name)
-    pub result : Each (ComesFrom tokens holds s.asked) s.result
+    pub result : Each (ComesFrom tokens readings s.asked) s.result
     pub argument : InOption (Each (IsGiven s.asked)) s.argument
     pub counted : length s.result + s.free ≡ room
 
@@ -132,7 +132,7 @@ module _ (tokens : ℕ → Bytes → List Token) (holds : Holdings) (room : ℕ)
     extends = extends_refl s.asked;
   }
 
-  original_more : (a b : List Bytes) → Extends a b → (t : Token) → IsOriginal tokens holds a t → IsOriginal tokens holds b t
+  original_more : (a b : List Bytes) → Extends a b → (t : Token) → IsOriginal tokens readings a t → IsOriginal tokens readings b t
   original_more a b e t o = record {
     name = o.name;
     bytes = o.bytes;
@@ -147,7 +147,7 @@ module _ (tokens : ℕ → Bytes → List Token) (holds : Holdings) (room : ℕ)
   given_more : (a b : List Bytes) → Extends a b → (t : Lexeme) → IsGiven a t → IsGiven b t
   given_more a b e t o = record { sound = sound_more a b e t o.sound; plain = o.plain }
 
-  from_more : (a b : List Bytes) → Extends a b → (t : Token) → ComesFrom tokens holds a t → ComesFrom tokens holds b t
+  from_more : (a b : List Bytes) → Extends a b → (t : Token) → ComesFrom tokens readings a t → ComesFrom tokens readings b t
   from_more a b e t o = record { original = o.original; is = original_more a b e o.original o.is; same = o.same; kept = o.kept }
 
   sounds_more : (a b : List Bytes) → Extends a b → (ts : List Lexeme) → Each (IsSound a) ts → Each (IsSound b) ts
@@ -204,7 +204,7 @@ module _ (tokens : ℕ → Bytes → List Token) (holds : Holdings) (room : ℕ)
   put_keeps more t place s k e sound kept = record {
     keeps = record {
       macros = k.macros;
-      result = each_append (ComesFrom tokens holds s.asked) s.result (placed place t.token ∷ []) k.result
+      result = each_append (ComesFrom tokens readings s.asked) s.result (placed place t.token ∷ []) k.result
           (record { original = t.token; is = sound.original; same = refl; kept = kept }, tt);
       argument = k.argument;
       counted = put_counted s.result (placed place t.token) s.free more room k.counted e;
@@ -669,7 +669,7 @@ module _ (tokens : ℕ → Bytes → List Token) (holds : Holdings) (room : ℕ)
       record {
         keeps = record {
           macros = λ other. bodies_more s.asked now e (s.macros other) (k.macros other);
-          result = each_map (ComesFrom tokens holds s.asked) (ComesFrom tokens holds now) (from_more s.asked now e) s.result k.result;
+          result = each_map (ComesFrom tokens readings s.asked) (ComesFrom tokens readings now) (from_more s.asked now e) s.result k.result;
           argument = argument_more s.asked now e s.argument k.argument;
           counted = k.counted;
         };
@@ -683,7 +683,7 @@ module _ (tokens : ℕ → Bytes → List Token) (holds : Holdings) (room : ℕ)
 
   -- the tokens of a file that was read, which has this number
   read_tokens : AreOfFiles tokens → (asked : List Bytes) (file : ℕ) (name bytes : Bytes) → slice_get asked file ≡ Some name
-      → held holds name ≡ Some bytes → Each (IsSound asked) (lexemes_of bytes (tokens file bytes))
+      → readings file name ≡ Some bytes → Each (IsSound asked) (lexemes_of bytes (tokens file bytes))
   read_tokens are asked file name bytes at holding =
       each_of_map (IsSound asked) _ (tokens file bytes)
       (each_map (λ t. (t.file ≡ file) × ((t.place.file ≡ file) × ((t.kind ≡ End → ⊥) × Contains (tokens file bytes) t))) _
@@ -692,7 +692,7 @@ module _ (tokens : ℕ → Bytes → List Token) (holds : Holdings) (room : ℕ)
           name = name;
           bytes = bytes;
           read = subst (λ n. slice_get asked n ≡ Some name) (sym h.0) at;
-          holding = holding;
+          holding = subst (λ n. readings n name ≡ Some bytes) (sym h.0) holding;
           among = subst (λ n. Contains (tokens n bytes) t) (sym h.0) h.1.1.1;
         };
         no_end = h.1.1.0;
@@ -706,13 +706,13 @@ module _ (tokens : ℕ → Bytes → List Token) (holds : Holdings) (room : ℕ)
       (each_both (λ t. t.kind ≡ End → ⊥) (Contains (tokens file bytes)) (tokens file bytes)
       (each_all (λ t. t.kind ≡ End → ⊥) (tokens file bytes) (are.no_end file bytes)) (each_contained (tokens file bytes))))))
 
+  last_index : (names : List Bytes) (name : Bytes) → length (names ++ name ∷ []) - 1 ≡ length names
+  last_index names name = omega (arith, length-append names (name ∷ []))
+
   -- the file that was read last
   at_end : (names : List Bytes) (name : Bytes) → slice_get (names ++ name ∷ []) (length (names ++ name ∷ []) - 1) ≡ Some name
   at_end names name = subst (λ n. slice_get (names ++ name ∷ []) n ≡ Some name) (sym (last_index names name)) (last_of names name)
     where
-      last_index : (names : List Bytes) (name : Bytes) → length (names ++ name ∷ []) - 1 ≡ length names
-      last_index names name = omega (arith, length-append names (name ∷ []))
-
       last_of : (names : List Bytes) (name : Bytes) → slice_get (names ++ name ∷ []) (length names) ≡ Some name
       last_of [] name = refl
       last_of (first ∷ names) name = last_of names name
@@ -720,7 +720,7 @@ module _ (tokens : ℕ → Bytes → List Token) (holds : Holdings) (room : ℕ)
   module _ (are : AreOfFiles tokens) (most : Limits) where
     unless_large_keeps : (test : Bool) (at_include : Included) → IncludeKeeps at_include → (name bytes : Bytes) (file : ℕ) (s : State)
         → Each (IsSound s.asked) (lexemes_of bytes (tokens file bytes)) → file < length s.asked → Keeps s
-        → Post (Refused s.asked) (Later s.asked) (unless_large most tokens holds test at_include name bytes file s)
+        → Post (Refused s.asked) (Later s.asked) (unless_large most tokens readings test at_include name bytes file s)
     unless_large_keeps true at_include includes name bytes file s e at k =
         stops (Later s.asked) code.FileLarge (first_place file) s (lit≤ tt) k at
     unless_large_keeps false at_include includes name bytes file s e at k =
@@ -729,17 +729,18 @@ module _ (tokens : ℕ → Bytes → List Token) (holds : Holdings) (room : ℕ)
 
     -- a file that was just asked for
     pub expand_bytes_keeps : (at_include : Included) → IncludeKeeps at_include → (name bytes : Bytes) (s : State)
-        → held holds name ≡ Some bytes → Keeps s
-        → Post (Refused (asking name s).asked) (Later (asking name s).asked) (expand_bytes most tokens holds at_include name bytes (asking name s))
+        → readings (length s.asked) name ≡ Some bytes → Keeps s
+        → Post (Refused (asking name s).asked) (Later (asking name s).asked) (expand_bytes most tokens readings at_include name bytes (asking name s))
     expand_bytes_keeps at_include includes name bytes s holding k =
         let now = asking name s in
         unless_large_keeps (nat_lt most.bytes (length bytes)) at_include includes name bytes (length now.asked - 1) now
-        (read_tokens are now.asked (length now.asked - 1) name bytes (at_end s.asked name) holding)
+        (read_tokens are now.asked (length now.asked - 1) name bytes (at_end s.asked name)
+        (subst (λ n. readings n name ≡ Some bytes) (sym (last_index s.asked name)) holding))
         (slice_get_within now.asked (length now.asked - 1) name (at_end s.asked name)) (asking_keeps name s k).keeps
 
     include_of_keeps : (o : Option Bytes) (at_include : Included) → IncludeKeeps at_include → (name : Bytes) (place : Place) (s : State)
-        → held holds name ≡ o → Keeps s → InFile s.asked place
-        → Post (Refused s.asked) (Later s.asked) (include_of most tokens holds o at_include name place (asking name s))
+        → readings (length s.asked) name ≡ o → Keeps s → InFile s.asked place
+        → Post (Refused s.asked) (Later s.asked) (include_of most tokens readings o at_include name place (asking name s))
     include_of_keeps None at_include includes name place s holding k at =
         let l = asking_keeps name s k in
         later_post (λ v. v) s.asked (asking name s).asked l.extends (stopped code.MissingInclude place (asking name s))
@@ -747,10 +748,10 @@ module _ (tokens : ℕ → Bytes → List Token) (holds : Holdings) (room : ℕ)
         (in_more s.asked (asking name s).asked l.extends place at))
     include_of_keeps (Some bytes) at_include includes name place s holding k at =
         later_post (λ v. v) s.asked (asking name s).asked (asking_keeps name s k).extends
-        (expand_bytes most tokens holds at_include name bytes (asking name s))
+        (expand_bytes most tokens readings at_include name bytes (asking name s))
         (expand_bytes_keeps at_include includes name bytes s holding k)
 
-    pub include_within_keeps : (n : ℕ) → IncludeKeeps (include_within most tokens holds n)
+    pub include_within_keeps : (n : ℕ) → IncludeKeeps (include_within most tokens readings n)
     include_within_keeps zero name place s k at = stops (Later s.asked) code.IncludeDeep place s (lit≤ tt) k at
     include_within_keeps (suc n) name place s k at =
-        include_of_keeps (held holds name) (include_within most tokens holds n) (include_within_keeps n) name place s refl k at
+        include_of_keeps (readings (length s.asked) name) (include_within most tokens readings n) (include_within_keeps n) name place s refl k at

@@ -1,14 +1,15 @@
 -- The result of an expansion with the files that it read is a text after expansion.
 use Rattle.std.proofs.Common.{◌≡◌, ◌≤◌, ◌+◌, ℕ, zero, suc, List, [], ◌∷◌, length, refl, sym, ap, subst, ◌∙◌, arith}
 use Rattle.std.specs.Prelude.{Option, Some, None, IsTrue, IsSome, All, Contains, slice_get, unwrap_or}
+use Rattle.va_base.specs.declared.expanded.Expanded.{Expanded}
 use Rattle.va_base.specs.declared.file.FileText.{FileText}
 use Rattle.va_base.specs.declared.token.Token.{Token}
-use Rattle.va_base.specs.Expansion.{is_kept, LiesWithin, bytes_from, IsExpandedToken}
+use Rattle.va_base.specs.Expansion.{is_kept, LiesWithin, bytes_from, IsExpandedToken, IsExpanded}
 use Rattle.va_base.specs.Spelling.{spells}
 use Rattle.va_base.specs.Numerals.{decimal_of}
 use Rattle.va_io.specs.Outside.{Holdings, held}
 use Rattle.va_preproc.specs.Lexemes.{Bytes}
-use Rattle.va_preproc.specs.Expansion.{limits, texts, end_token}
+use Rattle.va_preproc.specs.Expansion.{Limits, limits, Readings, in_holdings, texts, end_token, expansion_by, expanded}
 use Rattle.va_preproc.specs.Laws.{AreTokens, IsTokenOf, ComesFrom, GivesExpanded}
 use Rattle.va_lexer.specs.Tokens.{tokens_of}
 use Rattle.va_preproc.proofs.Lexed.{lexed_tokens}
@@ -44,29 +45,46 @@ in_file files t name bytes at is kept = record {
   limited = λ number. subst (λ o. IsSome (decimal_of (bytes_from o t.first t.len))) (sym at) (is.limited number);
 }
 
-comes_in_file : (tokens : ℕ → Bytes → List Token) (holds : Holdings) (asked : List Bytes) → AreTokens tokens → (t : Token)
-    → ComesFrom tokens holds asked t → IsExpandedToken (texts holds asked) t
-comes_in_file tokens holds asked are t c =
+-- files in which what was read stands at its number
+abbrev pub AreRead : Readings → List Bytes → List FileText → Type 0
+AreRead readings asked files =
+    (k : ℕ) (name bytes : Bytes) → slice_get asked k ≡ Some name → readings k name ≡ Some bytes → slice_get files k ≡ Some (text name bytes)
+
+comes_in_file : (tokens : ℕ → Bytes → List Token) (readings : Readings) (asked : List Bytes) (files : List FileText) → AreTokens tokens
+    → AreRead readings asked files → (t : Token) → ComesFrom tokens readings asked t → IsExpandedToken files t
+comes_in_file tokens readings asked files are read t c =
     let o = c.original in
     let is = c.is in
-    let original = in_file (texts holds asked) o is.name is.bytes (text_at holds asked o.file is.name is.bytes is.read is.holding)
+    let original = in_file files o is.name is.bytes (read o.file is.name is.bytes is.read is.holding)
     (token_of_text (tokens o.file is.bytes) (IsTokenOf is.bytes) o (are.of_texts o.file is.bytes) is.among) c.kept in
-    subst (IsExpandedToken (texts holds asked)) (sym c.same)
+    subst (IsExpandedToken files) (sym c.same)
     (record { kept = original.kept; lies = original.lies; spelled = original.spelled; limited = original.limited })
 
 end_lies : (n : ℕ) → n + 0 ≤ n
 end_lies n = omega arith
 
-pub gives_expanded : GivesExpanded
-gives_expanded holds main result asked e =
-    let r = gives_results limits tokens_of holds main result asked lexed_tokens.of_files e in
+no_more : (n m : ℕ) → n ≤ m → m ≤ 2000000 → n ≤ 2000000
+no_more n m h k = omega arith
+
+all_few : limits.result ≤ 2000000
+all_few = omega arith
+
+-- the same over what reads find
+pub gives_text : (most : Limits) → most.result ≤ 2000000 → (readings : Readings) (main : Bytes) (result : List Token) (asked : List Bytes) (files : List FileText)
+    → AreRead readings asked files → expansion_by most tokens_of readings main ≡ expanded result asked
+    → IsExpanded (let e : Expanded = record { tokens = result; files = files } in e)
+gives_text most few readings main result asked files read e =
+    let r = gives_results most tokens_of readings main result asked lexed_tokens.of_files e in
     record {
       before = r.before;
       end = end_token r.bytes;
       ends = r.ends;
       end_kind = refl;
-      end_lies = subst (λ o. LiesWithin o (length r.bytes) 0) (sym (text_at holds asked 0 main r.bytes r.first r.main_file))
+      end_lies = subst (λ o. LiesWithin o (length r.bytes) 0) (sym (read 0 main r.bytes r.first r.main_file))
           (end_lies (length r.bytes));
-      each = λ k d h. comes_in_file tokens_of holds asked lexed_tokens _ (r.each k d h);
-      few = r.few;
+      each = λ k d h. comes_in_file tokens_of readings asked files lexed_tokens read _ (r.each k d h);
+      few = no_more (length r.before) most.result r.few few;
     }
+
+pub gives_expanded : GivesExpanded
+gives_expanded holds main result asked e = gives_text limits all_few (in_holdings holds) main result asked (texts holds asked) (text_at holds asked) e

@@ -1,30 +1,20 @@
 -- Conditional text (Conditional compilation): its arms, and what its directives do.
 use Rattle.std.specs.Prelude.{ℕ, Bool, true, false, List, [], ◌∷◌, Option, Some, None, Ok}
 use Rattle.std.specs.Option.{is_some}
-use Rattle.va_base.specs.declared.place.Place.{Place}
 use Rattle.va_base.specs.declared.fault.FaultCode.{FaultCode}
 use Rattle.va_base.specs.declared.fault.FaultCode.TheVariants.{Conditional}
+use Rattle.va_preproc.specs.declared.condition.Arm.{Arm}
+use Rattle.va_preproc.specs.declared.condition.Arm.TheVariants.{Chosen, Waiting, Passed}
+use Rattle.va_preproc.specs.declared.condition.Branch.{Branch}
 use Rattle.va_preproc.specs.Lexemes.{Bytes, Lexeme, name_of}
 use Rattle.va_preproc.specs.Reading.{State, Step, ◌>>=◌, stopped, read_some, own_place}
 use Rattle.va_preproc.specs.Definitions.{Form, next_token}
 
--- the present arm of a conditional is read; or none was read yet; or an earlier one was, or none is to be
-pub data Arm : Type 0 where
-  chosen : Arm
-  waiting : Arm
-  passed : Arm
-
--- a conditional that is open: the place of its `ifdef` or `ifndef`, its present arm, and whether that is the one of `else`
-pub record Branch : Type 0 where
-  pub begins : Place
-  pub arm : Arm
-  pub is_last : Bool
-
 -- the arm is not read
 abbrev pub is_skipped_arm : Arm → Bool
-is_skipped_arm chosen = false
-is_skipped_arm waiting = true
-is_skipped_arm passed = true
+is_skipped_arm Chosen = false
+is_skipped_arm Waiting = true
+is_skipped_arm Passed = true
 
 -- text is skipped where the innermost open conditional's arm is; a conditional in skipped text has no arm that is read
 abbrev pub is_skipped : List Branch → Bool
@@ -33,16 +23,16 @@ is_skipped (b ∷ outer) = is_skipped_arm b.arm
 
 -- the first arm, in skipped text or not, by its condition
 abbrev pub first_arm : Bool → Bool → Arm
-first_arm true condition = passed
-first_arm false true = chosen
-first_arm false false = waiting
+first_arm true condition = Passed
+first_arm false true = Chosen
+first_arm false false = Waiting
 
 -- the arm after this one, by its condition
 abbrev pub next_arm : Arm → Bool → Arm
-next_arm chosen condition = passed
-next_arm waiting true = chosen
-next_arm waiting false = waiting
-next_arm passed condition = passed
+next_arm Chosen condition = Passed
+next_arm Waiting true = Chosen
+next_arm Waiting false = Waiting
+next_arm Passed condition = Passed
 
 -- where a file goes on: how many of the tokens after this one were read, the open conditionals from the innermost on, the state
 pub record Onward : Type 0 where

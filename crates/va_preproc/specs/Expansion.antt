@@ -15,7 +15,8 @@ use Rattle.va_preproc.specs.declared.directive.Directive.TheVariants.{Define, Un
 use Rattle.va_preproc.specs.Lexemes.{Bytes, Lexeme, lexemes_of, Role, line_end, a_directive, a_use, a_name, another, role_of}
 use Rattle.va_preproc.specs.Reading.{Macro, Macros, State, Stop, Step, ◌>>=◌, stopped, read_one, read_some, own_place, give}
 use Rattle.va_preproc.specs.Definitions.{definition_form, next_token, macro_name, file_name, line}
-use Rattle.va_preproc.specs.Conditionals.{Branch, is_skipped, Onward, with_form, at_if, at_elsif, at_else, at_endif, all_closed}
+use Rattle.va_preproc.specs.declared.condition.Branch.{Branch}
+use Rattle.va_preproc.specs.Conditionals.{is_skipped, Onward, with_form, at_if, at_elsif, at_else, at_endif, all_closed}
 use Rattle.va_preproc.specs.Uses.{Use, use_within}
 
 -- the limits of an expansion
@@ -155,8 +156,12 @@ start_macros =
 abbrev pub start : Limits → State
 start most = record { macros = start_macros; asked = []; unread = most.read; result = []; free = most.result; argument = None }
 
--- Expansions over what is held under which names, where `tokens` are those of a file of a number by its bytes.
-module _ (most : Limits) (tokens : ℕ → Bytes → List Token) (holds : Holdings) where
+-- what the read of a number, from 0, finds under a name
+abbrev pub Readings : Type 0
+Readings = ℕ → Bytes → Option Bytes
+
+-- Expansions over what reads find, where `tokens` are those of a file of a number by its bytes.
+module _ (most : Limits) (tokens : ℕ → Bytes → List Token) (readings : Readings) where
   -- a file that was read, past its limit or not
   abbrev pub unless_large : Bool → Included → Bytes → Bytes → ℕ → State → Step State
   unless_large true at_include name bytes file s = stopped code.FileLarge (first_place file) s
@@ -176,7 +181,7 @@ module _ (most : Limits) (tokens : ℕ → Bytes → List Token) (holds : Holdin
   -- an include where so many may be open inside each other from here on, itself among them
   abbrev pub include_within : ℕ → Included
   include_within zero name place s = stopped code.IncludeDeep place s
-  include_within (suc more) name place s = include_of (held holds name) (include_within more) name place (asking name s)
+  include_within (suc more) name place s = include_of (readings (length s.asked) name) (include_within more) name place (asking name s)
 
 -- What an expansion gives: there is no main file; or the first fault in reading order; or the tokens, of which the last is
 -- End. With a fault and with the tokens go the names that were read.
@@ -190,14 +195,22 @@ ended bytes (Err stop) = faulty stop
 ended bytes (Ok s) = expanded (s.result ++ end_token bytes ∷ []) s.asked
 
 -- of a main file by its bytes
-abbrev pub expansion_of : Option Bytes → Limits → (ℕ → Bytes → List Token) → Holdings → Bytes → Expansion
-expansion_of None most tokens holds main = lacking main
-expansion_of (Some bytes) most tokens holds main =
-    ended bytes (expand_bytes most tokens holds (include_within most tokens holds most.includes) main bytes (asking main (start most)))
+abbrev pub expansion_of : Option Bytes → Limits → (ℕ → Bytes → List Token) → Readings → Bytes → Expansion
+expansion_of None most tokens readings main = lacking main
+expansion_of (Some bytes) most tokens readings main =
+    ended bytes (expand_bytes most tokens readings (include_within most tokens readings most.includes) main bytes (asking main (start most)))
+
+-- the expansion of a main file over what reads find, the first of which is that of the main file
+abbrev pub expansion_by : Limits → (ℕ → Bytes → List Token) → Readings → Bytes → Expansion
+expansion_by most tokens readings main = expansion_of (readings 0 main) most tokens readings main
+
+-- each read finds what is held
+abbrev pub in_holdings : Holdings → Readings
+in_holdings holds number name = held holds name
 
 -- the expansion of a main file within limits
 abbrev pub expansion_within : Limits → (ℕ → Bytes → List Token) → Holdings → Bytes → Expansion
-expansion_within most tokens holds main = expansion_of (held holds main) most tokens holds main
+expansion_within most tokens holds main = expansion_by most tokens (in_holdings holds) main
 
 -- the expansion of a main file
 abbrev pub expansion : Holdings → Bytes → Expansion

@@ -10,10 +10,10 @@ use Rattle.va_base.specs.declared.expanded.Expanded.{Expanded}
 use Rattle.va_base.specs.Expansion.{is_kept, IsExpanded}
 use Rattle.va_base.specs.Spelling.{spells}
 use Rattle.va_base.specs.Numerals.{decimal_of}
-use Rattle.va_io.specs.Outside.{Holdings, held}
+use Rattle.va_io.specs.Outside.{Holdings}
 use Rattle.va_preproc.specs.Lexemes.{Bytes}
 use Rattle.va_preproc.specs.Reading.{placed, Stop}
-use Rattle.va_preproc.specs.Expansion.{Limits, Expansion, lacking, faulty, expanded, expansion_within, expansion, texts, end_token}
+use Rattle.va_preproc.specs.Expansion.{Limits, Readings, Expansion, lacking, faulty, expanded, expansion_by, expansion, texts, end_token}
 
 -- the tokens of a file have its number, as have their places, and none is End
 pub record AreOfFiles (tokens : ℕ → Bytes → List Token) : Type 0 where
@@ -22,36 +22,36 @@ pub record AreOfFiles (tokens : ℕ → Bytes → List Token) : Type 0 where
   pub no_end : (file : ℕ) (bytes : Bytes) → All (λ t. t.kind ≡ End → ⊥) (tokens file bytes)
 
 -- a token of a file that was read, which had the token's file number
-pub record IsOriginal (tokens : ℕ → Bytes → List Token) (holds : Holdings) (asked : List Bytes) (t : Token) : Type 0 where
+pub record IsOriginal (tokens : ℕ → Bytes → List Token) (readings : Readings) (asked : List Bytes) (t : Token) : Type 0 where
   pub name : Bytes
   pub bytes : Bytes
   pub read : slice_get asked t.file ≡ Some name
-  pub holding : held holds name ≡ Some bytes
+  pub holding : readings t.file name ≡ Some bytes
   pub among : Contains (tokens t.file bytes) t
 
 -- A token of a result: it is a token of a file that was read, but for its place, and is of a kind that is left.
-pub record ComesFrom (tokens : ℕ → Bytes → List Token) (holds : Holdings) (asked : List Bytes) (t : Token) : Type 0 where
+pub record ComesFrom (tokens : ℕ → Bytes → List Token) (readings : Readings) (asked : List Bytes) (t : Token) : Type 0 where
   pub original : Token
-  pub is : IsOriginal tokens holds asked original
+  pub is : IsOriginal tokens readings asked original
   pub same : t ≡ placed t.place original
   pub kept : IsTrue (is_kept original.kind)
 
--- The files that were read are held, the main one is the first; the result ends at the end of the main file, its other
+-- The files that were read were found, the main one is the first; the result ends at the end of the main file, its other
 -- tokens come from the files, and there are no more of them than the limit allows.
-pub record IsResult (most : Limits) (tokens : ℕ → Bytes → List Token) (holds : Holdings) (main : Bytes) (result : List Token) (asked : List Bytes) : Type 0 where
+pub record IsResult (most : Limits) (tokens : ℕ → Bytes → List Token) (readings : Readings) (main : Bytes) (result : List Token) (asked : List Bytes) : Type 0 where
   pub bytes : Bytes
-  pub main_file : held holds main ≡ Some bytes
+  pub main_file : readings 0 main ≡ Some bytes
   pub first : slice_get asked 0 ≡ Some main
   pub before : List Token
   pub ends : result ≡ before ++ end_token bytes ∷ []
-  pub each : All (ComesFrom tokens holds asked) before
+  pub each : All (ComesFrom tokens readings asked) before
   pub few : length before ≤ most.result
 
 -- each expansion that is not refused gives such a result
 abbrev pub GivesResults : Type 0
 GivesResults =
-    (most : Limits) (tokens : ℕ → Bytes → List Token) (holds : Holdings) (main : Bytes) (result : List Token) (asked : List Bytes)
-    → AreOfFiles tokens → expansion_within most tokens holds main ≡ expanded result asked → IsResult most tokens holds main result asked
+    (most : Limits) (tokens : ℕ → Bytes → List Token) (readings : Readings) (main : Bytes) (result : List Token) (asked : List Bytes)
+    → AreOfFiles tokens → expansion_by most tokens readings main ≡ expanded result asked → IsResult most tokens readings main result asked
 
 -- a token of a text: its bytes lie there and spell it, and a numeral lies within the limits
 pub record IsTokenOf (bytes : Bytes) (t : Token) : Type 0 where
@@ -83,8 +83,8 @@ pub record IsFault (most : Limits) (main : Bytes) (stop : Stop) : Type 0 where
 -- each expansion that is refused has such a fault
 abbrev pub GivesFaults : Type 0
 GivesFaults =
-    (most : Limits) (tokens : ℕ → Bytes → List Token) (holds : Holdings) (main : Bytes) (stop : Stop)
-    → AreOfFiles tokens → expansion_within most tokens holds main ≡ faulty stop → IsFault most main stop
+    (most : Limits) (tokens : ℕ → Bytes → List Token) (readings : Readings) (main : Bytes) (stop : Stop)
+    → AreOfFiles tokens → expansion_by most tokens readings main ≡ faulty stop → IsFault most main stop
 
 -- the fault of a limit on what is open at once
 abbrev pub IsDeepCode : FaultCode → Type 0
@@ -99,7 +99,7 @@ IsTooDeep (expanded result asked) = ⊥
 -- the same where more may be open.
 abbrev pub DepthsOnlyRefuse : Type 0
 DepthsOnlyRefuse =
-    (most : Limits) (uses includes : ℕ) (tokens : ℕ → Bytes → List Token) (holds : Holdings) (main : Bytes)
+    (most : Limits) (uses includes : ℕ) (tokens : ℕ → Bytes → List Token) (readings : Readings) (main : Bytes)
     → most.uses ≤ uses → most.includes ≤ includes
-    → IsTooDeep (expansion_within most tokens holds main)
-    ⊎ (expansion_within (record most { uses = uses; includes = includes }) tokens holds main ≡ expansion_within most tokens holds main)
+    → IsTooDeep (expansion_by most tokens readings main)
+    ⊎ (expansion_by (record most { uses = uses; includes = includes }) tokens readings main ≡ expansion_by most tokens readings main)

@@ -5,5 +5,8 @@ pub mod Conditionals
 pub mod Uses
 pub mod Expansion
 pub mod Laws
+pub mod Answers
+pub mod Values
+pub mod Steps
 pub mod SmallTexts
 pub mod Worked
