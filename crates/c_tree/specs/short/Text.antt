@@ -1,8 +1,9 @@
 -- The text of a short C file: its words, each followed by a space or a line end. A name that ends with K belongs to module
 -- number K of the file; a host reaches each part through the field of the OSDI struct that is named beside it.
-use Rattle.std.specs.Prelude.{ℕ, zero, suc, max, ◌==◌, ◌||◌, Bool, false, if◌then◌else◌}
-use Rattle.std.specs.Prelude.{List, [], ◌∷◌, ◌++◌, codes, decimal}
-use Rattle.std.specs.List.{flat_map, slice_split, enumerate_from}
+use Rattle.std.specs.Prelude.{ℕ, zero, suc, List, [], ◌++◌, codes}
+use Rattle.std.specs.List.{flat_map, enumerate_from}
+pub use Rattle.c_tree.specs.Words.{Word, ends_line, spelled, numbered, unsigned, word, array_length}
+unfoldable pub use Rattle.c_tree.specs.Words.{spaced, template, include_words, cast_words}
 use Rattle.c_tree.specs.declared.short.Field.{Field}
 use Rattle.c_tree.specs.declared.short.Field.TheVariants.{Param, Row}
 use Rattle.c_tree.specs.declared.short.Atom.{Atom}
@@ -15,46 +16,6 @@ use Rattle.c_tree.specs.declared.short.Statement.{Statement}
 use Rattle.c_tree.specs.declared.short.Statement.TheVariants.{Declare, Set}
 use Rattle.c_tree.specs.declared.short.Load.{Load}
 use Rattle.c_tree.specs.declared.short.ShortModule.{ShortModule}
-
--- a word: its bytes, which hold no space but in an include
-abbrev pub Word : Type 0
-Word = List ℕ
-
--- whether a line ends behind a word: behind `;`, `{`, `}` and an include, which alone begins with `#`
-abbrev pub ends_line : Word → Bool
-ends_line [] = false
-ends_line (c ∷ []) = c == 59 || c == 123 || c == 125
-ends_line (c ∷ d ∷ rest) = c == 35
-
--- a word with the space or the line end behind it
-unfoldable pub spaced : Word → List ℕ
-spaced word = word ++ (if ends_line word then 10 else 32) ∷ []
-
--- the text of some words
-abbrev pub spelled : List Word → List ℕ
-spelled = flat_map spaced
-
--- the words of a line of C that is written with one space between its words
-unfoldable pub template : List ℕ → List Word
-template text = slice_split (λ byte. byte == 32) text
-
--- a name that ends with a number
-abbrev pub numbered : List ℕ → ℕ → Word
-numbered name n = name ++ decimal n
-
--- an unsigned number, as `3u`
-abbrev pub unsigned : ℕ → Word
-unsigned n = decimal n ++ codes "u"
-
--- one word
-abbrev pub word : Word → List Word
-word w = w ∷ []
-
--- what each file begins with
-unfoldable pub include_words : List Word
-include_words =
-    word (codes "#include \"osdi_0_3.h\"") ++ word (codes "#include <math.h>") ++ word (codes "#include <stddef.h>")
-    ++ word (codes "#include <stdint.h>") ++ word (codes "#include <stdlib.h>")
 
 -- a field of the instance: `p3` for parameter 3, `r3` for row 3
 abbrev pub field_word : Field → Word
@@ -94,20 +55,10 @@ load_words load =
     template (codes "dst [ inst -> node [") ++ word (unsigned load.unknown) ++ template (codes "] ] += inst ->")
     ++ word (field_word (Row load.row)) ++ word (codes ";")
 
--- the length of an array of so many elements: C has none of length 0
-abbrev pub array_length : ℕ → ℕ
-array_length n = max n 1
-
 -- the declarations of so many fields, numbered from 0 on
 abbrev pub fields_words : List ℕ → ℕ → List Word
 fields_words name zero = []
 fields_words name (suc n) = fields_words name n ++ word (codes "double") ++ word (numbered name n) ++ word (codes ";")
-
--- `KIND * NAME = ( KIND * ) FROM ;`, by which a function takes the instance or the model from its argument FROM
-unfoldable pub cast_words : List ℕ → List ℕ → List ℕ → ℕ → List Word
-cast_words kind name from k =
-    word (numbered kind k) ++ word (codes "*") ++ word name ++ template (codes "= (")
-    ++ word (numbered kind k) ++ template (codes "* )") ++ word from ++ word (codes ";")
 
 -- The model's struct (OsdiDescriptor.model_size) and the instance's (instance_size). Of the instance, `node` is at
 -- node_mapping_offset, `jr` at jacobian_ptr_resist_offset, an element of `jq` at OsdiJacobianEntry.react_ptr_off, `col` at

@@ -1,0 +1,17 @@
+//! Texts and their tokens, worked out by hand, as a contract: the definition of a C file's tokens computes to them.
+ghost use Rattle.c_tree.specs.tokens.Worked.{WorkedTokens};
+
+/// Texts, and what their bytes give.
+pub fn tokens_worked_by_hand()
+    ensures { WorkedTokens }
+{}
+
+#[cfg(test)]
+mod tests {
+    use super::*;
+
+    #[test]
+    fn worked_tokens_hold(_rt: HostRuntime) {
+        tokens_worked_by_hand();
+    }
+}
