@@ -11,6 +11,9 @@ use Rattle.std.proofs.Math.Seq.{drop-append_seam}
 use Rattle.std.proofs.Math.ListN.{drop_of_length-le}
 use Rattle.c_tree.specs.short.Text.{Word, word, ends_line, spaced, spelled, template, numbered, fields_words, include_words}
 use Rattle.c_tree.specs.short.Text.{module_words, text_of}
+use Rattle.std.specs.Prelude.{ℤ, pos, negsuc}
+use Rattle.std.specs.Fmt.{signed_decimal}
+use Rattle.c_tree.specs.Words.{power_digits}
 use Rattle.c_print.specs.Prints.{Prints}
 use Rattle.c_tree.specs.declared.short.ShortModule.{ShortModule}
 
@@ -100,3 +103,12 @@ pub prints_all : (start mid new : List ℕ) (modules : List ShortModule) → sta
     → Prints start mid include_words → Prints mid new (modules_words 0 modules) → new ≡ text_of modules
 unfolding text_of
 prints_all start mid new modules e a b = (a ▸ b).is ∙ ap (λ t. t ++ spelled (include_words ++ modules_words 0 modules)) e
+
+-- the power of a real, as `itoa` writes it
+pub power_text : (power : ℤ) → signed_decimal power ≡ power_digits power
+power_text (pos n) = refl
+power_text (negsuc n) = refl
+
+-- a whole text, which begins with nothing
+pub prints_text : (start new : List ℕ) (words : List Word) → start ≡ [] → Prints start new words → new ≡ spelled words
+prints_text start new words e a = a.is ∙ ap (λ t. t ++ spelled words) e

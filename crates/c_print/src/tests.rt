@@ -1,5 +1,5 @@
 //! Whole texts, written line by line from the grammar of C files.
-use crate::print;
+use crate::short::print;
 use c_tree::short::{Atom, Field, Load, Operator, Right, ShortFile, ShortModule, Statement};
 use std::alloc::{AllocError, Global};
 use std::test::Fail;

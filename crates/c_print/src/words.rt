@@ -2,9 +2,14 @@
 ghost use Rattle.std.specs.Prelude.{◌≡◌, ◌≤◌, ◌++◌, ◌∷◌, [], if◌then◌else◌, drop, length, OnOk};
 ghost use Rattle.c_tree.specs.short.Text.{ends_line as ends_line_lem, numbered, template, unsigned, word as word_lem};
 ghost use Rattle.c_print.specs.Prints.{Prints};
+ghost use Rattle.std.specs.Prelude.{decimal};
+ghost use Rattle.std.specs.List.{flat_map};
+ghost use Rattle.c_tree.specs.Words.{real_word, stands_as_itself as stands_as_itself_lem, string_byte, string_word};
+ghost use Rattle.c_tree.specs.Text.{function_word};
 
 use itoa::Buffer;
 use std::alloc::AllocError;
+use va_base::{Decimal, Name};
 
 /// Whether a line ends behind a word.
 fn ends_line(word: &[u8]) -> bool
@@ -76,5 +81,121 @@ pub fn put_template(out: &mut Vec<u8>, text: &str) -> Result<(), AllocError>
         rest = more;
     }
     put_word(out, rest.as_bytes())?;
+    Ok(())
+}
+
+/// A name that ends with a number of any size.
+pub fn put_indexed(out: &mut Vec<u8>, name: &str, index: usize) -> Result<(), AllocError>
+    ensures { OnOk result (Prints out.old.items out.new.items (word_lem (numbered name.now index))) }
+{
+    let start = out.len();
+    let mut digits = Buffer::new();
+    out.extend_from_slice(name.as_bytes())?;
+    out.extend_from_slice(digits.format(index).as_bytes())?;
+    end_word(out, start)?;
+    Ok(())
+}
+
+/// The name of a function of a module, as `fn_0_1`.
+pub fn put_function_name(out: &mut Vec<u8>, number: usize, index: usize) -> Result<(), AllocError>
+    ensures { OnOk result (Prints out.old.items out.new.items (word_lem (function_word number index))) }
+{
+    let start = out.len();
+    let mut digits = Buffer::new();
+    out.extend_from_slice(b"fn_")?;
+    out.extend_from_slice(digits.format(number).as_bytes())?;
+    let mut more = Buffer::new();
+    out.push(b'_')?;
+    out.extend_from_slice(more.format(index).as_bytes())?;
+    end_word(out, start)?;
+    Ok(())
+}
+
+/// An unsigned number of any size, as `3u`.
+pub fn put_count(out: &mut Vec<u8>, count: usize) -> Result<(), AllocError>
+    ensures { OnOk result (Prints out.old.items out.new.items (word_lem (unsigned count))) }
+{
+    let start = out.len();
+    let mut digits = Buffer::new();
+    out.extend_from_slice(digits.format(count).as_bytes())?;
+    out.push(b'u')?;
+    end_word(out, start)?;
+    Ok(())
+}
+
+/// An integer, as `3`.
+pub fn put_integer(out: &mut Vec<u8>, number: u32) -> Result<(), AllocError>
+    ensures { OnOk result (Prints out.old.items out.new.items (word_lem (decimal number))) }
+{
+    let start = out.len();
+    let mut digits = Buffer::new();
+    out.extend_from_slice(digits.format(number).as_bytes())?;
+    end_word(out, start)?;
+    Ok(())
+}
+
+/// A real, as `15e-4`.
+pub fn put_real(out: &mut Vec<u8>, value: Decimal) -> Result<(), AllocError>
+    ensures { OnOk result (Prints out.old.items out.new.items (word_lem (real_word value.mantissa value.power))) }
+{
+    let start = out.len();
+    let mut digits = Buffer::new();
+    out.extend_from_slice(digits.format(value.mantissa).as_bytes())?;
+    let mut power = Buffer::new();
+    out.push(b'e')?;
+    out.extend_from_slice(power.format(value.power).as_bytes())?;
+    end_word(out, start)?;
+    Ok(())
+}
+
+/// Whether a byte stands as itself in a string.
+fn stands_as_itself(byte: u8) -> bool
+    ensures { result ≡ stands_as_itself_lem byte }
+{
+    32 <= byte && byte <= 126 && !matches!(byte, b'"' | b'?' | b'\\' | b'`')
+}
+
+/// A byte as it stands in a string.
+fn push_string_byte(out: &mut Vec<u8>, byte: u8) -> Result<(), AllocError>
+    ensures { OnOk result (out.new.items ≡ out.old.items ++ string_byte byte) }
+{
+    if stands_as_itself(byte) {
+        out.push(byte)?;
+        return Ok(());
+    }
+    out.push(b'\\')?;
+    out.push(b'0' + byte / 64)?;
+    out.push(b'0' + byte / 8 % 8)?;
+    out.push(b'0' + byte % 8)?;
+    Ok(())
+}
+
+/// Bytes as they stand in a string.
+fn push_string_bytes(out: &mut Vec<u8>, bytes: &[u8]) -> Result<(), AllocError>
+    ensures { OnOk result (out.new.items ≡ out.old.items ++ flat_map string_byte bytes.now) }
+{
+    for byte in bytes {
+        push_string_byte(out, *byte)?;
+    }
+    Ok(())
+}
+
+/// A string between its quotes.
+pub fn put_string(out: &mut Vec<u8>, name: &Name) -> Result<(), AllocError>
+    ensures { OnOk result (Prints out.old.items out.new.items (word_lem (string_word name.now))) }
+{
+    let start = out.len();
+    out.push(b'"')?;
+    push_string_bytes(out, name.as_bytes())?;
+    out.push(b'"')?;
+    end_word(out, start)?;
+    Ok(())
+}
+
+/// A name as it stands.
+pub fn put_name(out: &mut Vec<u8>, name: &Name) -> Result<(), AllocError>
+    ensures { OnOk result (Prints out.old.items out.new.items (word_lem name.now)) }
+{
+    put_word(out, name.as_bytes())?;
     Ok(())
 }

@@ -1,0 +1,13 @@
+use Rattle.std.proofs.Common.{List, ℕ, drop}
+use Rattle.std.specs.Prelude.{codes, ◌++◌}
+use Rattle.c_tree.specs.Words.{word}
+use Rattle.c_tree.specs.Text.{descriptor_words}
+use Rattle.c_print.specs.Prints.{Prints}
+use Rattle.c_print.proofs.Numbered.{numbered_words}
+use Rattle.c_print.proofs.descriptor.put_descriptors.Given as goal
+
+-- whatever prints the elements that are left prints them all
+abbrev pub invariant-loop-index : goal.invariant-loop-index
+invariant-loop-index l =
+    (new : List ℕ) → Prints l.out.items new (numbered_words (λ i tree. descriptor_words i tree ++ word (codes ",")) l.index (drop l.index l.modules))
+    → Prints l.fn.out.items new (numbered_words (λ i tree. descriptor_words i tree ++ word (codes ",")) 0 l.modules)

@@ -1,0 +1,11 @@
+use Rattle.c_print.proofs.Printing.{◌▸◌}
+use Rattle.c_print.proofs.simple.put_constant.Goals as goal
+
+pub returns : goal.returns
+returns c =
+    c.in_ok-put_word.ensures
+    ▸ c.in_ok-put_type.ensures
+    ▸ c.in_ok-put_numbered.ensures
+    ▸ c.in_ok-put_word-2.ensures
+    ▸ c.in_ok-put_right.ensures
+    ▸ c.in_ok-put_word-3.ensures

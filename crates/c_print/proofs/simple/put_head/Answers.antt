@@ -1,0 +1,10 @@
+use Rattle.c_print.proofs.Printing.{◌▸◌}
+use Rattle.c_print.proofs.simple.put_head.Goals as goal
+
+pub returns : goal.returns
+returns c =
+    c.in_ok-put_type.ensures
+    ▸ c.in_ok-put_numbered.ensures
+    ▸ c.in_ok-put_word.ensures
+    ▸ c.in_ok-put_atom.ensures
+    ▸ c.in_ok-put_word-2.ensures

@@ -1,0 +1,8 @@
+use Rattle.c_print.proofs.Printing.{◌▸◌}
+use Rattle.c_print.proofs.simple.put_join.Goals as goal
+
+pub returns : goal.returns
+returns c =
+    c.in_ok-put_type.ensures
+    ▸ c.in_ok-put_numbered.ensures
+    ▸ c.in_ok-put_word.ensures

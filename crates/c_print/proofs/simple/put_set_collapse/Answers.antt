@@ -1,0 +1,10 @@
+use Rattle.c_print.proofs.Printing.{◌▸◌}
+use Rattle.c_print.proofs.simple.put_set_collapse.Goals as goal
+
+pub returns : goal.returns
+returns c =
+    c.in_ok-put_template.ensures
+    ▸ c.in_ok-put_unsigned.ensures
+    ▸ c.in_ok-put_template-2.ensures
+    ▸ c.in_ok-put_atom.ensures
+    ▸ c.in_ok-put_word.ensures

@@ -1,0 +1,10 @@
+use Rattle.c_print.proofs.Printing.{◌▸◌}
+use Rattle.c_print.proofs.table.put_offset.Goals as goal
+
+pub returns : goal.returns
+returns c =
+    rw (← c.as_bytes.ensures.value) (c.in_ok-put_template.ensures
+    ▸ c.in_ok-put_indexed.ensures
+    ▸ c.in_ok-put_word.ensures
+    ▸ c.in_ok-put_word-2.ensures
+    ▸ c.in_ok-put_word-3.ensures)

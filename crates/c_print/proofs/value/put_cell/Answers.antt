@@ -1,0 +1,8 @@
+use Rattle.c_print.proofs.Printing.{◌▸◌}
+use Rattle.c_print.proofs.value.put_cell.Goals as goal
+
+pub returns : goal.returns
+returns c =
+    c.in_ok-put_level.ensures
+    ▸ c.in_ok-put_word.ensures
+    ▸ c.in_ok-put_field.ensures
