@@ -1,8 +1,7 @@
 pub mod Loops
 pub mod Lowering
 pub mod Named
-pub mod Numbers
 pub mod Params
+pub mod Reserved
 pub mod Unique
 pub mod Whole
-pub mod Words

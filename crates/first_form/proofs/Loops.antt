@@ -16,7 +16,7 @@ use Rattle.first_form.specs.Form.{Sum, sum, Terms, no_term, plus, minus, Term, t
 use Rattle.first_form.specs.Residuals.{number_in}
 use Rattle.first_form.specs.Code.{Code, joined, sum_code, terms_code, term_code, factors_code, factor_code}
 use Rattle.first_form.specs.Reading.{HasDeclared, HasWritten, EndsFactors, EndsTerms, mark, IsAdditive, IsMultiplicative, AreNames, IsSum, IsTerm, IsFactor, ReadsSum, ReadsTerm, ReadsFactor}
-use Rattle.first_form.proofs.Numbers.{IsName-free}
+use Rattle.first_form.proofs.Reserved.{IsName-free}
 use Rattle.first_form.proofs.Unique.{ArePlain, differ, rest_of, first_of_tokens, ends-not, terms-end, close-factors, close-terms, same-sum, same-term, same-factor}
 
 -- a name is neither `V` nor `(`

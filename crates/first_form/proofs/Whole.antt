@@ -1,5 +1,5 @@
 -- The whole text, from its header to its end.
-use Rattle.std.proofs.Common.{◌≡◌, ◌≤◌, ℕ, List, [], ◌∷◌, map, length, refl, ap, sym, ◌∙◌, subst}
+use Rattle.std.proofs.Common.{◌≡◌, ℕ, List, [], ◌∷◌, map, length, refl, ap, sym, ◌∙◌, subst}
 use Rattle.std.specs.Prelude.{codes}
 use Rattle.std.specs.List.{IsDistinct}
 use Rattle.std.specs.Str.{bytes_eq}
@@ -8,8 +8,7 @@ use Rattle.c_tree.specs.declared.short.Atom.{Atom}
 use Rattle.c_tree.specs.declared.short.ShortModule.{ShortModule}
 use Rattle.first_form.specs.declared.code.Writer.{Writer}
 use Rattle.first_form.specs.declared.sums.Scope.{Scope}
-use Rattle.first_form.specs.Tokens.{tokens}
-use Rattle.first_form.specs.Form.{Sum, NamesSum, Parameter, params_tokens, FirstForm, names_of, IsTextOf}
+use Rattle.first_form.specs.Form.{Sum, NamesSum, Parameter, params_tokens, FirstForm, names_of, AreWordsOf}
 use Rattle.first_form.specs.Reading.{NextIsNot, AreNames, declared_names, IsSum, ReadsSum, port_tokens, header_tokens, flow_tokens, flow_statements, IsHeader, IsParams, ReadsParams, IsFlow, ReadsModule, ReadsText}
 use Rattle.first_form.proofs.Unique.{differ, rest_of, first_of_tokens, same-sum}
 use Rattle.first_form.proofs.Loops.{plain-from}
@@ -82,8 +81,8 @@ flow-rest scope text rest after old new value e r names flow is =
 abbrev pub params_of : FirstForm → List (List ℕ)
 params_of form = params_tokens form.params (flow_tokens form.first form.second form.flow)
 
-pub form-header : (source : List ℕ) (form : FirstForm) → IsTextOf source form
-    → IsHeader (tokens source) form.name form.first form.second (params_of form)
+pub form-header : (source : List (List ℕ)) (form : FirstForm) → AreWordsOf source form
+    → IsHeader source form.name form.first form.second (params_of form)
 form-header source form t = record {
   spelled = t.spelled;
   name_is = t.in_order.name;
@@ -95,7 +94,7 @@ form-header source form t = record {
 form-ends : (first second : List ℕ) (flow : Sum) → NextIsNot (codes "parameter") (flow_tokens first second flow)
 form-ends first second flow = differ (codes "analog") (codes "parameter") refl
 
-form-params : (source : List ℕ) (form : FirstForm) → IsTextOf source form
+form-params : (source : List (List ℕ)) (form : FirstForm) → AreWordsOf source form
     → IsParams form.first form.second (params_of form) form.params (flow_tokens form.first form.second form.flow)
 form-params source form t = record {
   spelled = refl;
@@ -106,17 +105,17 @@ form-params source form t = record {
 }
 
 -- what was read of a text of the first form is its header
-pub read-header : (source : List ℕ) (name first second : List ℕ) (rest : List (List ℕ)) (form : FirstForm)
-    → IsHeader (tokens source) name first second rest → IsTextOf source form
+pub read-header : (source : List (List ℕ)) (name first second : List ℕ) (rest : List (List ℕ)) (form : FirstForm)
+    → IsHeader source name first second rest → AreWordsOf source form
     → (first ≡ form.first) × (second ≡ form.second) × (rest ≡ params_of form)
 read-header source name first second rest form h t =
     let s = same-header name first second rest form.name form.first form.second (params_of form) (sym h.spelled ∙ t.spelled) in
     (s.first_is, s.second_is, s.rest_is)
 
 -- where no declarations are found, the text is not of the first form
-pub params-none : (source : List ℕ) (name first second : List ℕ) (rest : List (List ℕ)) → IsHeader (tokens source) name first second rest
+pub params-none : (source : List (List ℕ)) (name first second : List ℕ) (rest : List (List ℕ)) → IsHeader source name first second rest
     → ((trees : List Parameter) (after : List (List ℕ)) → IsParams first second rest trees after → ⊥)
-    → (form : FirstForm) → IsTextOf source form → ⊥
+    → (form : FirstForm) → AreWordsOf source form → ⊥
 params-none source name first second rest h none form t =
     let s = read-header source name first second rest form h t in
     let p = form-params source form t in
@@ -135,11 +134,11 @@ names-read first second text names rest r =
     let P : List (List ℕ) → Type 0 = AreNames in subst P (sym r.named) (are-names r.trees r.is.are)
 
 -- where no contribution is found, the text is not of the first form
-pub flow-none : (source : List ℕ) (name : List ℕ) (rest after : List (List ℕ)) (scope : Scope)
-    → IsHeader (tokens source) name scope.first.now scope.second.now rest
+pub flow-none : (source : List (List ℕ)) (name : List ℕ) (rest after : List (List ℕ)) (scope : Scope)
+    → IsHeader source name scope.first.now scope.second.now rest
     → ReadsParams scope.first.now scope.second.now rest scope.names after
     → (AreNames scope.names → (flow : Sum) → IsFlow scope after flow → ⊥)
-    → (form : FirstForm) → IsTextOf source form → ⊥
+    → (form : FirstForm) → AreWordsOf source form → ⊥
 flow-none source name rest after scope h r none form t =
     let s = read-header source name scope.first.now scope.second.now rest form h t in
     let p = unique-lists r.trees form.params after (flow_tokens form.first form.second form.flow)
@@ -172,7 +171,7 @@ form-same : (n n' f f' s s' : List ℕ) (ps ps' : List Parameter) (flow flow' : 
     ≡ record { name = n'; first = f'; second = s'; params = ps'; flow = flow' }
 form-same n n' f f' s s' ps ps' flow flow' a b c d e = cc
 
-pub one-form : (source : List ℕ) (form other : FirstForm) → IsTextOf source form → IsTextOf source other → other ≡ form
+pub one-form : (source : List (List ℕ)) (form other : FirstForm) → AreWordsOf source form → AreWordsOf source other → other ≡ form
 one-form source form other t u =
     let s = same-header other.name other.first other.second (params_of other) form.name form.first form.second (params_of form)
     (sym u.spelled ∙ t.spelled) in
@@ -185,10 +184,10 @@ one-form source form other t u =
     (ap (map (λ p. p.name)) p.0) (are-names form.params t.in_order.params) t.in_order.known u.in_order.known (sym p.1))
 
 -- the text was read
-pub text-read : (source : List ℕ) (name : List ℕ) (rest after : List (List ℕ)) (scope : Scope) (tree : ShortModule) → length source ≤ 16777216
-    → IsHeader (tokens source) name scope.first.now scope.second.now rest
+pub text-read : (source : List (List ℕ)) (name : List ℕ) (rest after : List (List ℕ)) (scope : Scope) (tree : ShortModule)
+    → IsHeader source name scope.first.now scope.second.now rest
     → ReadsParams scope.first.now scope.second.now rest scope.names after → ReadsModule scope after tree → ReadsText source tree
-text-read source name rest after scope tree size h r m =
+text-read source name rest after scope tree h r m =
     let form : FirstForm = record {
       name = name;
       first = scope.first.now;
@@ -196,8 +195,7 @@ text-read source name rest after scope tree size h r m =
       params = r.trees;
       flow = m.flow;
     } in
-    let text : IsTextOf source form = record {
-      size = size;
+    let text : AreWordsOf source form = record {
       spelled = h.spelled ∙ ap (header_tokens name scope.first.now scope.second.now) (r.is.spelled ∙ ap (params_tokens r.trees) m.is.spelled);
       in_order = record {
         name = h.name_is;
@@ -212,7 +210,7 @@ text-read source name rest after scope tree size h r m =
     } in
     record {
       form = form;
-      text = text;
+      are = text;
       only = λ other t. one-form source form other text t;
       unknowns = m.unknowns;
       params = m.params ∙ ap length r.named ∙ length-map r.trees (λ (p : Parameter). p.name);

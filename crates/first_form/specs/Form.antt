@@ -1,9 +1,13 @@
 -- The first form: one module with two ports, real parameters with whole numbers as defaults, and one contribution to the
 -- flow of the branch between the ports. Here are its tree, the tokens that spell a tree, and the conditions that it keeps.
-use Rattle.std.specs.Prelude.{◌≡◌, ◌≤◌, ◌+◌, ◌*◌, ◌-◌, ℕ, max, ◌==◌, List, [], ◌∷◌, map, length, All, Contains, IsTrue, codes, fold}
-use Rattle.std.specs.List.{IsDistinct, slice_split}
+use Rattle.std.specs.Prelude.{◌≡◌, ◌≤◌, ◌+◌, ℕ, max, Bool, false, ◌==◌, ◌&&◌, ◌||◌, nat_le, List, [], ◌∷◌, ◌++◌, map, length, Contains, Option, Some, None, IsTrue, codes}
+use Rattle.std.specs.List.{IsDistinct, list_all}
 use Rattle.std.specs.Str.{bytes_eq}
-use Rattle.first_form.specs.Tokens.{tokens, is_letter, is_digit}
+use Rattle.va_base.specs.declared.exact.Decimal.{Decimal}
+use Rattle.va_base.specs.declared.expanded.Expanded.{Expanded}
+use Rattle.va_base.specs.Numerals.{decimal_of}
+use Rattle.va_base.specs.Spelling.{is_letter, is_digit_byte}
+use Rattle.first_form.specs.Words.{keywords, words_of}
 
 -- A sum as its rows are read from left to right (Expressions): a first term and those that follow, and so for a term.
 mutual
@@ -90,24 +94,26 @@ form_tokens form =
     ∷ sum_tokens form.first form.second form.flow (codes ";" ∷ codes "endmodule" ∷ [])
     )
 
--- the words that name nothing: the keywords (Lexical conventions), and the names that the first form uses itself
+-- the words that name nothing: the keywords, and the names that the first form uses itself
 abbrev pub reserved_words : List (List ℕ)
-reserved_words =
-    slice_split (λ byte. byte == 32) (codes "module endmodule input output inout nature endnature discipline enddiscipline potential flow domain branch parameter localparam aliasparam real integer from exclude inf analog function endfunction begin end if else case endcase default for while repeat initial_step final_step V I electrical")
+reserved_words = keywords ++ codes "V" ∷ codes "I" ∷ codes "electrical" ∷ []
 
--- a word that may be declared; a token that begins with a letter or `_` is a word
+-- a word that may be declared; a token that begins with a letter, with `_` or with `\` is a word (Identifiers)
 abbrev pub IsName : List ℕ → Type 0
 IsName [] = ⊥
-IsName (c ∷ rest) = IsTrue (is_letter c) × (Contains reserved_words (c ∷ rest) → ⊥)
+IsName (c ∷ rest) = IsTrue (is_letter c || c == 92) × (Contains reserved_words (c ∷ rest) → ⊥)
 
--- the number that digits give
-abbrev pub number_of : List ℕ → ℕ
-number_of = fold (λ n digit. 10 * n + (digit - 48)) 0
+-- a number that an integer may be
+abbrev pub is_small : Option Decimal → Bool
+is_small None = false
+is_small (Some number) = nat_le number.mantissa 2147483647
 
--- digits, of a number that an integer may be (Numbers)
+-- a numeral of digits alone, of such a number (Integer constants)
+abbrev pub is_whole : List ℕ → Bool
+is_whole token = is_small (decimal_of token) && list_all is_digit_byte token
+
 abbrev pub IsWhole : List ℕ → Type 0
-IsWhole [] = ⊥
-IsWhole (c ∷ rest) = All (λ digit. IsTrue (is_digit digit)) (c ∷ rest) × (number_of (c ∷ rest) ≤ 2147483647)
+IsWhole token = IsTrue (is_whole token)
 
 -- Of a sum: each name in it is one of these; and how many parentheses are open at once.
 module _ (names : List (List ℕ)) where
@@ -173,8 +179,11 @@ pub record IsInOrder (form : FirstForm) : Type 0 where
   pub known : NamesSum (names_of form) form.flow
   pub shallow : open_in_sum form.flow ≤ 100
 
--- a file with these bytes is of the first form, and this is its tree
-pub record IsTextOf (source : List ℕ) (form : FirstForm) : Type 0 where
-  pub size : length source ≤ 16777216
-  pub spelled : tokens source ≡ form_tokens form
+-- these words spell a text of the first form, and this is its tree
+pub record AreWordsOf (text : List (List ℕ)) (form : FirstForm) : Type 0 where
+  pub spelled : text ≡ form_tokens form
   pub in_order : IsInOrder form
+
+-- a text after expansion is of the first form, and this is its tree
+abbrev pub IsTextOf : Expanded → FirstForm → Type 0
+IsTextOf source = AreWordsOf (words_of source)

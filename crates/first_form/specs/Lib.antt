@@ -2,6 +2,6 @@ pub mod Code
 pub mod Form
 pub mod Reading
 pub mod Residuals
-pub mod Tokens
 pub mod Translation
+pub mod Words
 pub mod Worked

@@ -15,7 +15,7 @@ use Rattle.c_tree.specs.declared.short.Statement.TheVariants.{Declare, Set}
 use Rattle.c_tree.specs.declared.short.ShortModule.{ShortModule}
 use Rattle.first_form.specs.declared.code.Writer.{Writer}
 use Rattle.first_form.specs.declared.sums.Scope.{Scope}
-use Rattle.first_form.specs.Form.{Sum, Term, Factor, sum_tokens, term_tokens, factor_tokens, NamesSum, NamesTerm, NamesFactor, open_in_sum, open_in_term, open_in_factor, IsName, IsWhole, Parameter, params_tokens, AreParameters, FirstForm, IsTextOf}
+use Rattle.first_form.specs.Form.{Sum, Term, Factor, sum_tokens, term_tokens, factor_tokens, NamesSum, NamesTerm, NamesFactor, open_in_sum, open_in_term, open_in_factor, IsName, IsWhole, Parameter, params_tokens, AreParameters, FirstForm, AreWordsOf}
 use Rattle.first_form.specs.Code.{Code, sum_code, term_code, factor_code, form_statements, form_loads}
 
 -- one declaration was added, of a local that is the atom
@@ -200,10 +200,10 @@ pub record ReadsModule (scope : Scope) (text : List (List ℕ)) (tree : ShortMod
   pub loads : tree.loads ≡ form_loads
 
 -- the text has one tree, and the module is made of it
-pub record ReadsText (source : List ℕ) (tree : ShortModule) : Type 0 where
+pub record ReadsText (text : List (List ℕ)) (tree : ShortModule) : Type 0 where
   pub form : FirstForm
-  pub text : IsTextOf source form
-  pub only : (other : FirstForm) → IsTextOf source other → other ≡ form
+  pub are : AreWordsOf text form
+  pub only : (other : FirstForm) → AreWordsOf text other → other ≡ form
   pub unknowns : tree.unknowns ≡ 2
   pub params : tree.params ≡ length form.params
   pub eval : tree.eval ≡ form_statements form

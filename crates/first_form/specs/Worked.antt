@@ -1,14 +1,44 @@
--- Rows that are worked out by hand: a resistor's text, its tree and its rows, and what tokens, names and sums give.
-use Rattle.std.specs.Prelude.{◌≡◌, ℕ, zero, suc, ℤ, pos, negsuc, List, [], ◌∷◌, map, codes}
+-- Rows that are worked out by hand: a resistor's text, its tree and its rows, and what words, names and sums give.
+use Rattle.std.specs.Prelude.{◌≡◌, ℕ, zero, suc, ℤ, pos, negsuc, ◌==◌, List, [], ◌∷◌, map, codes}
+use Rattle.std.specs.List.{slice_split}
+use Rattle.va_base.specs.declared.expanded.Expanded.{Expanded}
+use Rattle.va_base.specs.declared.token.Token.{Token}
+use Rattle.va_base.specs.declared.token.TokenKind.{TokenKind}
+use Rattle.va_base.specs.declared.token.TokenKind.TheVariants.{Word, Mark, End}
 use Rattle.alg_laws.specs.Residue.{residue_ops}
 use Rattle.alg_laws.specs.Whole.{whole_ops}
-use Rattle.first_form.specs.Tokens.{tokens}
 use Rattle.first_form.specs.Form.{Sum, sum, no_term, plus, minus, Term, term, no_factor, times, over}
-use Rattle.first_form.specs.Form.{Factor, parameter, potential, group, FirstForm, IsTextOf, IsName, IsWhole}
+use Rattle.first_form.specs.Form.{Factor, parameter, potential, group, FirstForm, AreWordsOf, IsName, IsWhole}
 use Rattle.first_form.specs.Residuals.{residuals}
+use Rattle.first_form.specs.Words.{word_of, words_of}
 
-abbrev pub resistor_text : List ℕ
-resistor_text = codes "module m(a, c); inout a, c; electrical a, c; parameter real r = 1; analog I(a, c) <+ V(a, c) / r; endmodule"
+-- the words between the spaces of a text
+abbrev pub spaced : List ℕ → List (List ℕ)
+spaced = slice_split (λ byte. byte == 32)
+
+abbrev pub resistor_words : List (List ℕ)
+resistor_words =
+    spaced (codes "module m ( a , c ) ; inout a , c ; electrical a , c ; parameter real r = 1 ; analog I ( a , c ) <+ V ( a , c ) / r ; endmodule")
+
+-- a token of the first or the second file
+abbrev pub token : TokenKind → ℕ → ℕ → ℕ → Token
+token kind file first len = record {
+  kind = kind;
+  file = file;
+  first = first;
+  len = len;
+  place = record { file = 0; line = 1; col = 1 };
+}
+
+-- tokens of two files, the second of which was included
+abbrev pub two_files : Expanded
+two_files = record {
+  tokens = token Word 0 3 5 ∷ token Mark 1 0 2 ∷ token Word 0 9 3 ∷ token End 0 12 0 ∷ [];
+  files =
+      record { name = codes "m.va"; bytes = codes "   \\name end" }
+      ∷ record { name = codes "b.h"; bytes = codes "<+" }
+      ∷ [];
+}
 
 -- a form with ports a and c and these parameters, whose flow is this sum
 abbrev pub form_of : List (List ℕ) → Sum → FirstForm
@@ -68,34 +98,41 @@ abbrev pub rows_of : Sum → ℤ → ℤ → ℤ → List ℤ
 rows_of flow x y z = residuals (form_of three_names flow) ℤ whole_ops (values x y z) (λ _. pos 0)
 
 pub record WorkedTexts : Type 0 where
-  pub resistor_is_the_text : IsTextOf resistor_text resistor
+  pub resistor_is_the_text : AreWordsOf resistor_words resistor
   -- 5 - 3 over 1 leaves the first port and enters the second
   pub resistor_rows : residuals resistor ℤ whole_ops (λ _. pos 1) (values (pos 5) (pos 3) (pos 9)) ≡ pos 2 ∷ negsuc 1 ∷ []
 
--- the longest token is taken, and blanks part words
-pub record WorkedTokens : Type 0 where
-  pub contribution : tokens (codes "I(a,c)<+V") ≡ codes "I" ∷ codes "(" ∷ codes "a" ∷ codes "," ∷ codes "c" ∷ codes ")" ∷ codes "<+" ∷ codes "V" ∷ []
-  pub parted : tokens (codes "< +") ≡ codes "<" ∷ codes "+" ∷ []
-  pub twice : tokens (codes "<<+<") ≡ codes "<" ∷ codes "<+" ∷ codes "<" ∷ []
-  pub run_together : tokens (codes "real r1 1r_") ≡ codes "real" ∷ codes "r1" ∷ codes "1r_" ∷ []
-  pub blanks : tokens (9 ∷ 97 ∷ 13 ∷ 10 ∷ 98 ∷ 32 ∷ []) ≡ codes "a" ∷ codes "b" ∷ []
-  pub other_bytes : tokens (97 ∷ 0 ∷ 11 ∷ 195 ∷ 169 ∷ []) ≡ codes "a" ∷ (0 ∷ []) ∷ (11 ∷ []) ∷ (195 ∷ []) ∷ (169 ∷ []) ∷ []
-  pub empty : tokens (codes " ") ≡ []
+-- `\` makes no difference where it needs not stand
+pub record WorkedWords : Type 0 where
+  pub mark : word_of (codes "<+") ≡ codes "<+"
+  pub word : word_of (codes "name") ≡ codes "name"
+  pub escaped : word_of (codes "\\name") ≡ codes "name"
+  pub escaped_access : word_of (codes "\\V") ≡ codes "V"
+  pub escaped_keyword : word_of (codes "\\module") ≡ codes "\\module"
+  pub escaped_mark : word_of (codes "\\<+") ≡ codes "\\<+"
+  pub escaped_digits : word_of (codes "\\1") ≡ codes "\\1"
+  pub in_files : words_of two_files ≡ codes "name" ∷ codes "<+" ∷ codes "end" ∷ []
 
 -- names and whole numbers
 pub record WorkedNames : Type 0 where
   pub longer_than_a_keyword : IsName (codes "endmodule_1")
   pub other_case : IsName (codes "Real")
   pub underscore : IsName (codes "_")
+  pub dollar : IsName (codes "m$")
+  pub escaped_keyword : IsName (codes "\\module")
   pub first_keyword : IsName (codes "module") → ⊥
   pub last_keyword : IsName (codes "final_step") → ⊥
   pub access : IsName (codes "V") → ⊥
   pub discipline : IsName (codes "electrical") → ⊥
-  pub digit_first : IsName (codes "1r") → ⊥
+  pub digit_first : IsName (codes "1") → ⊥
+  pub system_name : IsName (codes "$vt") → ⊥
   pub largest : IsWhole (codes "2147483647")
   pub one_more : IsWhole (codes "2147483648") → ⊥
   pub leading_zeros : IsWhole (codes "000")
-  pub mixed : IsWhole (codes "1r") → ⊥
+  pub parted : IsWhole (codes "1_0")
+  pub fraction : IsWhole (codes "1.0") → ⊥
+  pub scaled : IsWhole (codes "1k") → ⊥
+  pub exponent : IsWhole (codes "1e3") → ⊥
 
 -- sums are read from left to right, products before sums, and a parameter by its number
 pub record WorkedSums : Type 0 where

@@ -1,7 +1,7 @@
 //! The whole text: its header, its parameters and its contribution.
-ghost use Rattle.std.specs.Prelude.{◌≡◌, ◌∷◌, [], List, ℕ, IfOk, IsErrOf, length, ◌<◌, ◌≤◌};
-ghost use Rattle.first_form.specs.Tokens.{tokens};
-ghost use Rattle.first_form.specs.Form.{Sum, Parameter, FirstForm, IsTextOf};
+ghost use Rattle.std.specs.Prelude.{◌≡◌, ◌∷◌, [], List, ℕ, IfOk, IsErrOf, length, take, ◌-◌, ◌<◌, ◌≤◌};
+ghost use Rattle.first_form.specs.Words.{words, words_of};
+ghost use Rattle.first_form.specs.Form.{Sum, Parameter, FirstForm, AreWordsOf};
 ghost use Rattle.first_form.specs.Code.{form_loads};
 ghost use Rattle.first_form.specs.Reading.{AreNames, port_tokens, IsHeader, IsParameter, ReadsParameter, IsParams, ReadsParams, IsFlow, ReadsFlow, ReadsModule, ReadsText};
 
@@ -12,33 +12,33 @@ use crate::sums::{Scope, sum};
 use crate::tokens::{after, expect, expect_all, is_token, name, next_token, whole};
 use c_tree::short::{Atom, Field, Load, Right, ShortModule};
 use std::alloc::Global;
-use va_base::Items;
+use va_base::{Expanded, FileText, Items, Token};
 
 /// The ports, and what follows their declarations.
 #[derive(Drop)]
 struct Header<'a> {
     first: &'a [u8],
     second: &'a [u8],
-    rest: &'a [u8],
+    rest: &'a [Token],
 }
 
 /// Reads the module's name and its ports.
-fn read_header(text: &[u8]) -> Result<Header<'_>, TranslateErr>
+fn read_header<'a>(files: &'a [FileText], text: &'a [Token]) -> Result<Header<'a>, TranslateErr>
     ensures read { IfOk result (λ header. (name : List ℕ)
-        × IsHeader (tokens text.now) name header.first.now header.second.now (tokens header.rest.now)) }
+        × IsHeader (words files.now text.now) name header.first.now header.second.now (words files.now header.rest.now)) }
     ensures unread { IsErrOf result TranslateErr.Unbuilt
-        → (name first second : List ℕ) (rest : List (List ℕ)) → IsHeader (tokens text.now) name first second rest → ⊥ }
+        → (name first second : List ℕ) (rest : List (List ℕ)) → IsHeader (words files.now text.now) name first second rest → ⊥ }
 {
-    let text = expect(text, b"module")?;
-    let (_, text) = name(text)?;
-    let text = expect(text, b"(")?;
-    let (first, text) = name(text)?;
-    let text = expect(text, b",")?;
-    let (second, text) = name(text)?;
+    let text = expect(files, text, b"module")?;
+    let (_, text) = name(files, text)?;
+    let text = expect(files, text, b"(")?;
+    let (first, text) = name(files, text)?;
+    let text = expect(files, text, b",")?;
+    let (second, text) = name(files, text)?;
     if is_token(first, second) {
         return Err(TranslateErr::Unbuilt);
     }
-    let rest = port_declarations(text, first, second)?;
+    let rest = port_declarations(files, text, first, second)?;
     Ok(Header {
         first,
         second,
@@ -48,15 +48,17 @@ fn read_header(text: &[u8]) -> Result<Header<'_>, TranslateErr>
 
 /// Reads the end of the list of ports, and their directions and disciplines.
 fn port_declarations<'a>(
-    text: &'a [u8],
+    files: &'a [FileText],
+    text: &'a [Token],
     first: &[u8],
     second: &[u8],
-) -> Result<&'a [u8], TranslateErr>
-    ensures read { IfOk result (λ rest. tokens text.now ≡ port_tokens first.now second.now (tokens rest.now)) }
+) -> Result<&'a [Token], TranslateErr>
+    ensures read { IfOk result (λ rest. words files.now text.now ≡ port_tokens first.now second.now (words files.now rest.now)) }
     ensures unread { IsErrOf result TranslateErr.Unbuilt
-        → (rest : List (List ℕ)) → tokens text.now ≡ port_tokens first.now second.now rest → ⊥ }
+        → (rest : List (List ℕ)) → words files.now text.now ≡ port_tokens first.now second.now rest → ⊥ }
 {
     expect_all(
+        files,
         text,
         &[
             b")",
@@ -80,19 +82,20 @@ fn parameter<'a>(
     first: &[u8],
     second: &[u8],
     names: &mut Names<'a>,
-    text: &'a [u8],
-) -> Result<&'a [u8], TranslateErr>
+    files: &'a [FileText],
+    text: &'a [Token],
+) -> Result<&'a [Token], TranslateErr>
     ensures read { IfOk result
-        (λ rest. ReadsParameter first.now second.now names.old names.new (tokens text.now) (tokens rest.now)) }
+        (λ rest. ReadsParameter first.now second.now names.old names.new (words files.now text.now) (words files.now rest.now)) }
     ensures unread { IsErrOf result TranslateErr.Unbuilt → (tree : Parameter) (rest : List (List ℕ))
-        → IsParameter first.now second.now names.old (tokens text.now) tree rest → ⊥ }
+        → IsParameter first.now second.now names.old (words files.now text.now) tree rest → ⊥ }
     ensures shorter { IfOk result (λ rest. length rest.now ≤ length text.now) }
 {
-    let text = expect(text, b"real")?;
-    let (name, text) = name(text)?;
-    let text = expect(text, b"=")?;
-    let text = whole(text)?;
-    let text = expect(text, b";")?;
+    let text = expect(files, text, b"real")?;
+    let (name, text) = name(files, text)?;
+    let text = expect(files, text, b"=")?;
+    let text = whole(files, text)?;
+    let text = expect(files, text, b";")?;
     if is_token(name, first) || is_token(name, second) {
         return Err(TranslateErr::Unbuilt);
     }
@@ -105,18 +108,19 @@ fn parameters<'a>(
     first: &[u8],
     second: &[u8],
     names: &mut Names<'a>,
-    text: &'a [u8],
-) -> Result<&'a [u8], TranslateErr>
+    files: &'a [FileText],
+    text: &'a [Token],
+) -> Result<&'a [Token], TranslateErr>
     requires none { names.old ≡ [] }
     requires apart { first.now ≡ second.now → ⊥ }
     ensures read { IfOk result
-        (λ rest. ReadsParams first.now second.now (tokens text.now) names.new (tokens rest.now)) }
+        (λ rest. ReadsParams first.now second.now (words files.now text.now) names.new (words files.now rest.now)) }
     ensures unread { IsErrOf result TranslateErr.Unbuilt → (trees : List Parameter) (rest : List (List ℕ))
-        → IsParams first.now second.now (tokens text.now) trees rest → ⊥ }
+        → IsParams first.now second.now (words files.now text.now) trees rest → ⊥ }
 {
     let mut rest = text;
-    'params: while let Some(more) = after(rest, b"parameter") {
-        rest = parameter(first, second, names, more)?;
+    'params: while let Some(more) = after(files, rest, b"parameter") {
+        rest = parameter(first, second, names, files, more)?;
     }
     Ok(rest)
 }
@@ -125,10 +129,15 @@ fn parameters<'a>(
 const MAX_OPEN: u32 = 100;
 
 /// Reads the contribution up to the end of the text, and writes the code of its sum, whose value it gives.
-fn contribution(scope: &Scope, code: &mut Writer, text: &[u8]) -> Result<Atom, TranslateErr>
-    ensures read { IfOk result (λ value. ReadsFlow scope.now (tokens text.now) code.old value code.new) }
+fn contribution(
+    scope: &Scope,
+    code: &mut Writer,
+    files: &[FileText],
+    text: &[Token],
+) -> Result<Atom, TranslateErr>
+    ensures read { IfOk result (λ value. ReadsFlow scope.now (words files.now text.now) code.old value code.new) }
     ensures unread { IsErrOf result TranslateErr.Unbuilt → AreNames scope.now.names
-        → (flow : Sum) → IsFlow scope.now (tokens text.now) flow → ⊥ }
+        → (flow : Sum) → IsFlow scope.now (words files.now text.now) flow → ⊥ }
 {
     let front: &[&[u8]] = &[
         b"analog",
@@ -140,23 +149,28 @@ fn contribution(scope: &Scope, code: &mut Writer, text: &[u8]) -> Result<Atom, T
         b")",
         b"<+",
     ];
-    let rest = expect_all(text, front)?;
-    let (value, rest) = sum(scope, code, rest, MAX_OPEN)?;
-    let rest = expect_all(rest, &[b";", b"endmodule"])?;
-    match next_token(rest) {
+    let rest = expect_all(files, text, front)?;
+    let (value, rest) = sum(scope, code, files, rest, MAX_OPEN)?;
+    let rest = expect_all(files, rest, &[b";", b"endmodule"])?;
+    match next_token(files, rest) {
         None => Ok(value),
         Some(_) => Err(TranslateErr::Unbuilt),
     }
 }
 
 /// The module of a contribution in scope.
-fn module_of(alloc: Global, scope: &Scope, text: &[u8]) -> Result<ShortModule, TranslateErr>
-    ensures read { IfOk result (λ tree. ReadsModule scope.now (tokens text.now) tree) }
+fn module_of(
+    alloc: Global,
+    scope: &Scope,
+    files: &[FileText],
+    text: &[Token],
+) -> Result<ShortModule, TranslateErr>
+    ensures read { IfOk result (λ tree. ReadsModule scope.now (words files.now text.now) tree) }
     ensures unread { IsErrOf result TranslateErr.Unbuilt → AreNames scope.now.names
-        → (flow : Sum) → IsFlow scope.now (tokens text.now) flow → ⊥ }
+        → (flow : Sum) → IsFlow scope.now (words files.now text.now) flow → ⊥ }
 {
     let mut code = Writer::new(alloc);
-    let flow = contribution(scope, &mut code, text)?;
+    let flow = contribution(scope, &mut code, files, text)?;
     let negative = code.declare(Right::Negated(flow))?;
     code.set(Field::Row(0), flow)?;
     code.set(Field::Row(1), negative)?;
@@ -181,25 +195,40 @@ fn loads_of_rows(alloc: Global) -> Result<Items<Load>, TranslateErr>
     }
 }
 
-/// How many bytes a text may have.
-const MAX_BYTES: usize = 16777216;
-
-/// Reads a whole text. It gives the module that is made of it.
-pub fn read_form(alloc: Global, source: &[u8]) -> Result<ShortModule, TranslateErr>
-    ensures read { IfOk result (λ tree. ReadsText source.now tree) }
-    ensures unbuilt { IsErrOf result TranslateErr.Unbuilt → (form : FirstForm) → IsTextOf source.now form → ⊥ }
+/// The tokens of a text after expansion, without its end.
+fn without_end(source: &Expanded) -> &[Token]
+    ensures { result.now ≡ take (length source.now.tokens - 1) source.now.tokens }
 {
-    if source.len() > MAX_BYTES {
-        return Err(TranslateErr::Unbuilt);
+    match source.tokens.as_list().split_last() {
+        Some((_, text)) => text,
+        None => &[],
     }
-    let header = read_header(source)?;
+}
+
+/// Reads a whole text, by its tokens without the end. It gives the module that is made of it.
+fn read_form(alloc: Global, files: &[FileText], text: &[Token]) -> Result<ShortModule, TranslateErr>
+    ensures read { IfOk result (λ tree. ReadsText (words files.now text.now) tree) }
+    ensures unbuilt { IsErrOf result TranslateErr.Unbuilt
+        → (form : FirstForm) → AreWordsOf (words files.now text.now) form → ⊥ }
+{
+    let header = read_header(files, text)?;
     let mut names = Names::new(alloc);
-    let rest = parameters(header.first, header.second, &mut names, header.rest)?;
+    let rest = parameters(header.first, header.second, &mut names, files, header.rest)?;
     let scope = Scope {
         first: header.first,
         second: header.second,
         names,
     };
-    let tree = module_of(alloc, &scope, rest)?;
+    let tree = module_of(alloc, &scope, files, rest)?;
+    Ok(tree)
+}
+
+/// Reads a whole text after expansion. It gives the module that is made of it.
+pub fn read_expanded(alloc: Global, source: &Expanded) -> Result<ShortModule, TranslateErr>
+    ensures read { IfOk result (λ tree. ReadsText (words_of source.now) tree) }
+    ensures unbuilt { IsErrOf result TranslateErr.Unbuilt
+        → (form : FirstForm) → AreWordsOf (words_of source.now) form → ⊥ }
+{
+    let tree = read_form(alloc, source.files.as_list(), without_end(source))?;
     Ok(tree)
 }

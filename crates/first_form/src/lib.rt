@@ -1,5 +1,6 @@
-//! Texts of the first form, from their bytes to the short C file.
+//! Texts of the first form, from their tokens to the short C file.
 //!
+//! `words` and `tokens` read what the expansion gives, `form` and `sums` the form and its sum, and `code` writes straight code.
 //! This is the front end of the first path. It goes when the parser of the whole language comes.
 #![tactic(auto)]
 
@@ -10,6 +11,7 @@ mod sums;
 #[cfg(test)]
 mod tests;
 mod tokens;
+mod words;
 pub mod worked;
 
 ghost use Rattle.std.specs.Prelude.{◌≡◌, ◌∷◌, [], IfOk, IsErrOf};
@@ -18,10 +20,10 @@ ghost use Rattle.first_form.specs.Translation.{IsTranslation};
 
 use alg_laws::Algebra;
 use c_tree::short::{ShortFile, ShortModule};
-use form::read_form;
+use form::read_expanded;
 use std::alloc::Global;
 use std::marker::PhantomData;
-use va_base::Items;
+use va_base::{Expanded, Items};
 
 /// Why a text has no C file.
 #[derive(Clone, Copy, Debug, PartialEq, Eq)]
@@ -35,13 +37,13 @@ pub enum TranslateErr {
 /// parameters in order of declaration; each run of it loads the residuals that the text contributes.
 pub fn translate<A: Algebra>(
     alloc: Global,
-    source: &[u8],
+    source: &Expanded,
     _law: PhantomData<A>,
 ) -> Result<ShortFile, TranslateErr>
     ensures translated { IfOk result (λ file. IsTranslation A.ops A.valid source.now file.modules) }
     ensures unbuilt { IsErrOf result TranslateErr.Unbuilt → (form : FirstForm) → IsTextOf source.now form → ⊥ }
 {
-    let tree = read_form(alloc, source)?;
+    let tree = read_expanded(alloc, source)?;
     let modules = one_module(alloc, tree)?;
     Ok(ShortFile { modules })
 }

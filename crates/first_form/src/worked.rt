@@ -1,14 +1,14 @@
 //! Rows that were worked out by hand, as contracts: the definitions compute to them.
-ghost use Rattle.first_form.specs.Worked.{WorkedTexts, WorkedTokens, WorkedNames, WorkedSums};
+ghost use Rattle.first_form.specs.Worked.{WorkedTexts, WorkedWords, WorkedNames, WorkedSums};
 
-/// The text of a resistor, its one tree, and its rows at a resistance of 1 between the potentials 5 and 3.
+/// The words of a resistor's text, its one tree, and its rows at a resistance of 1 between the potentials 5 and 3.
 pub fn resistor_worked_by_hand()
     ensures { WorkedTexts }
 {}
 
-/// Tokens that are parted, joined, and of other bytes (Lexical conventions).
-pub fn tokens_worked_by_hand()
-    ensures { WorkedTokens }
+/// Words with and without `\` (Escaped identifiers).
+pub fn words_worked_by_hand()
+    ensures { WorkedWords }
 {}
 
 /// What is a name, and what is a whole number.

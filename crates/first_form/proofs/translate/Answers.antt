@@ -6,7 +6,7 @@ returns-clause-translated g c =
     let r = c.in_ok-tree.ensures.read in
     record {
       form = r.form;
-      text = r.text;
+      text = r.are;
       only = r.only;
       tree = c.in_ok-tree.tree;
       alone = c.in_ok-modules.ensures.alone;

@@ -2,15 +2,15 @@ use Rattle.std.proofs.Common.{◌∷◌, inl, inr, sym, ap, ◌∙◌}
 use Rattle.std.specs.Prelude.{codes}
 use Rattle.std.proofs.lemmas.Bool.{false≢true}
 use Rattle.std.proofs.lemmas.Result.{err_from_is_err_and}
-use Rattle.first_form.specs.Tokens.{tokens}
+use Rattle.first_form.specs.Words.{words}
 use Rattle.first_form.proofs.Params.{parameter-taken, parameter-full, declared-first, declared-second, declared-name, undeclared}
 use Rattle.first_form.proofs.form.parameter.Goals.{then-is_token-via-then-is_token, then-is_token-via-else-is_token+then-is_token-2}
 use Rattle.first_form.proofs.form.parameter.Goals as goal
 
 pub returns-then-is_token-clause-unread : goal.returns-then-is_token-clause-unread
 returns-then-is_token-clause-unread c = λ e.
-    parameter-taken c.args.first.now c.args.second.now c.args.names.now (tokens c.args.text.now) (tokens c.in_ok-text.text.now)
-    (tokens c.in_ok-name.text.now) c.in_ok-name.name.now c.in_ok-text.ensures.read c.in_ok-name.ensures.read.0
+    parameter-taken c.args.first.now c.args.second.now c.args.names.now (words c.args.files.now c.args.text.now) (words c.args.files.now c.in_ok-text.text.now)
+    (words c.args.files.now c.in_ok-name.text.now) c.in_ok-name.name.now c.in_ok-text.ensures.read c.in_ok-name.ensures.read.0
     (elim c.then-is_token.branch [
       | then-is_token-via-then-is_token w ↦
           declared-first c.args.first.now c.args.second.now c.args.names.now c.in_ok-name.name.now (c.is_token.ensures.0 w.if-is_token.true)
@@ -23,10 +23,10 @@ pub returns-in_err-add-clause-unread : goal.returns-in_err-add-clause-unread
 returns-in_err-add-clause-unread c = λ e.
     let p = err_from_is_err_and c.from_residual-in_err-add.result c.from_residual-in_err-add.ensures.1 in
     elim (c.in_err-add.ensures.unbuilt cc) [
-      | inl h ↦ parameter-taken c.args.first.now c.args.second.now c.args.names.now (tokens c.args.text.now) (tokens c.in_ok-text.text.now)
-          (tokens c.in_ok-name.text.now) c.in_ok-name.name.now c.in_ok-text.ensures.read c.in_ok-name.ensures.read.0
+      | inl h ↦ parameter-taken c.args.first.now c.args.second.now c.args.names.now (words c.args.files.now c.args.text.now) (words c.args.files.now c.in_ok-text.text.now)
+          (words c.args.files.now c.in_ok-name.text.now) c.in_ok-name.name.now c.in_ok-text.ensures.read c.in_ok-name.ensures.read.0
           (declared-name c.args.first.now c.args.second.now c.args.names.now c.in_ok-name.name.now h)
-      | inr h ↦ parameter-full c.args.first.now c.args.second.now c.args.names.now (tokens c.args.text.now) h
+      | inr h ↦ parameter-full c.args.first.now c.args.second.now c.args.names.now (words c.args.files.now c.args.text.now) h
     ]
 
 pub returns-clause-read : goal.returns-clause-read

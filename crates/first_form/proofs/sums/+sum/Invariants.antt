@@ -1,5 +1,5 @@
 use Rattle.std.proofs.Common.{◌+◌, ◌*◌, ◌≤◌, length}
-use Rattle.first_form.specs.Tokens.{tokens}
+use Rattle.first_form.specs.Words.{words}
 use Rattle.first_form.proofs.Loops.{TermsLeft, FactorsLeft}
 use Rattle.first_form.proofs.sums.+sum.Given as goal
 
@@ -17,7 +17,7 @@ decreases-group l = 4 * l.depth
 
 abbrev pub invariant-sum-terms : goal.invariant-sum-terms
 invariant-sum-terms l = record {
-  left : TermsLeft l.fn.scope l.depth (tokens l.fn.text) l.fn.code l.value l.code (tokens l.rest);
+  left : TermsLeft l.fn.scope l.depth (words l.files l.fn.text) l.fn.code l.value l.code (words l.files l.rest);
   shorter : length l.rest ≤ length l.fn.text;
 }
 
@@ -26,7 +26,7 @@ decreases-sum-terms l = length l.rest
 
 abbrev pub invariant-term-factors : goal.invariant-term-factors
 invariant-term-factors l = record {
-  left : FactorsLeft l.fn.scope l.depth (tokens l.fn.text) l.fn.code l.value l.code (tokens l.rest);
+  left : FactorsLeft l.fn.scope l.depth (words l.files l.fn.text) l.fn.code l.value l.code (words l.files l.rest);
   shorter : length l.rest ≤ length l.fn.text;
 }
 

@@ -1,6 +1,6 @@
 use Rattle.std.proofs.Common.{◌≡◌, ◌∷◌, [], ◌++◌, ◌<◌, ℕ, zero, suc, List, map, length, take, get_or, refl, sym, ◌∙◌, arith, Bor}
 use Rattle.std.proofs.lemmas.Result.{err_from_is_err_and}
-use Rattle.first_form.specs.Tokens.{tokens}
+use Rattle.first_form.specs.Words.{words}
 use Rattle.first_form.proofs.Unique.{rest_of}
 use Rattle.first_form.proofs.tokens.expect_all.Goals as goal
 
@@ -16,5 +16,5 @@ stuck (w ∷ words) (suc i) d text left rest lt e n q =
 pub returns-in_err-rest-clause-unread : goal.returns-in_err-rest-clause-unread
 returns-in_err-rest-clause-unread c = λ e rest q.
     let p = err_from_is_err_and c.from_residual.result c.from_residual.ensures.1 in
-    stuck c.args.words.now c.loop-word.word-index _ (tokens c.args.text.now) (tokens c.loop-word.rest.now) rest c.loop-word-test.true
+    stuck c.args.front.now c.loop-word.word-index _ (words c.args.files.now c.args.text.now) (words c.args.files.now c.loop-word.rest.now) rest c.loop-word-test.true
     c.loop-word.invariant.read (c.in_err-rest.ensures.unread cc) q
