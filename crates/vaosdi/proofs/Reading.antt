@@ -1,73 +1,56 @@
--- What was read, and what the file holds; what the words are.
-use Rattle.std.proofs.Common.{◌≡◌, ◌<◌, ◌≤◌, ◌+◌, ◌++◌, ℕ, List, [], ◌∷◌, length, take, get_or, refl, sym, ap, ◌∙◌, subst, arith, ◌⊎◌}
-use Rattle.std.specs.Prelude.{Option, Some, None, map, codes}
-use Rattle.std.proofs.lemmas.List.{length-take}
-use Rattle.std.proofs.lemmas.List.{take_all}
+-- What is due where a file is not read, the first token of a text, and what the words are.
+use Rattle.std.proofs.Common.{inl, ◌≡◌, ◌++◌, ℕ, List, [], ◌∷◌, length, get_or, slice_index_or, length-append, ◌<◌, refl, sym, ap, ◌∙◌, subst, arith}
+use Rattle.std.specs.Prelude.{Option, Err, map, codes}
 use Rattle.alg_laws.specs.Operations.{Operations}
-use Rattle.first_form.specs.Form.{FirstForm, IsTextOf}
-use Rattle.va_io.specs.Outside.{Holdings, Gives, Lacks, Rose}
+use Rattle.va_base.specs.declared.expanded.Expanded.{Expanded}
+use Rattle.va_base.specs.declared.fault.Fault.{Fault}
+use Rattle.va_base.specs.declared.fault.FaultCode.TheVariants.{Unbuilt}
+use Rattle.va_base.specs.declared.fault.Phase.TheVariants.{Rules}
+use Rattle.va_base.specs.declared.token.Token.{Token}
+use Rattle.va_base.specs.Expansion.{IsExpanded}
+use Rattle.va_io.specs.Outside.{Holdings}
+use Rattle.va_preproc.specs.declared.expansion.PreErr.TheVariants as answer
+use Rattle.va_preproc.specs.Answers.{Seen as FilesSeen, IsAnswer}
 use Rattle.vaosdi.specs.declared.status.Status.{Status}
-use Rattle.vaosdi.specs.declared.status.Status.TheVariants.{Done, Refused, Usage, NoFile, ReadFault, WriteFault, NoMemory}
+use Rattle.vaosdi.specs.declared.status.Status.TheVariants.{NoFile, ReadFault, Refused}
 use Rattle.vaosdi.specs.Requests.{compile}
-use Rattle.vaosdi.specs.Answers.{IsCompiled, IsOutput, IsNotBuilt, IsDueFor, IsDueOfSource}
+use Rattle.vaosdi.specs.Faults.{StandsFirst, fault_line}
+use Rattle.vaosdi.specs.Answers.{IsDueFor}
 
--- a front that is shorter than what was asked for is the whole
-full : (n : ℕ) (file bytes : List ℕ) → bytes ≡ take n file → length bytes < n → file ≡ bytes
-full n file bytes e short =
-    let enough : length file ≤ n = omega (arith, length-take n file, ap length e) in
-    sym (take_all n file enough) ∙ sym e
+-- what the files answered
+module _ {V : Type 0} (o : Operations V) (valid : V → Type 0) (holds : Option Holdings) (files : FilesSeen) (file : List ℕ) where
+  pub due_missing : (status : Status) (text : List ℕ) → IsAnswer holds file files (Err answer.Missing)
+      → (status ≡ NoFile) × (text ≡ file ++ codes ": no such file\n") → IsDueFor holds files o valid (compile file) status text
+  due_missing status text a d =
+      subst (λ s. IsDueFor holds files o valid (compile file) s text) (sym d.0) (a, d.1)
 
--- a text of the first form that was read is the whole file
-pub output_of : {V : Type 0} (o : Operations V) (valid : V → Type 0) (holds : Option Holdings) (name : List ℕ) (bytes text : List ℕ)
-    → Gives holds name (16777216 + 1) bytes → IsCompiled o valid bytes text → IsOutput o valid holds (compile name) text
-output_of o valid None name bytes text g c = (bytes, tt, c)
-output_of o valid (Some files) name bytes text g c =
-    let size : length bytes ≤ 16777216 = c.translation.text.size in
-    (bytes, g.1 ∙ ap Some (full (16777216 + 1) g.0 bytes g.2 (omega arith)), c)
+  pub due_failed : (name : List ℕ) (status : Status) (text : List ℕ) → IsAnswer holds file files (Err (answer.Failed name))
+      → (status ≡ ReadFault) × (text ≡ name ++ codes ": read fault\n") → IsDueFor holds files o valid (compile file) status text
+  due_failed name status text a d =
+      subst (λ s. IsDueFor holds files o valid (compile file) s text) (sym d.0) (name, a, d.1)
 
--- where what was read is no text of the first form, the file holds none
-pub not_built : (holds : Option Holdings) (name : List ℕ) (bytes : List ℕ) → Gives holds name (16777216 + 1) bytes
-    → ((form : FirstForm) → IsTextOf bytes form → ⊥) → IsNotBuilt holds name
-not_built None name bytes g n = tt
-not_built (Some files) name bytes g n = (
-  g.0,
-  g.1,
-  λ form t.
-      let size : length g.0 ≤ 16777216 = t.size in
-      let whole : g.0 ≡ bytes = sym (take_all (16777216 + 1) g.0 (omega arith)) ∙ sym g.2 in
-      n form (subst (λ source. IsTextOf source form) whole t),
-)
+  pub due_fault : (fault : Fault) (name : List ℕ) (status : Status) (text : List ℕ)
+      → IsAnswer holds file files (Err (answer.Fault fault name)) → (status ≡ Refused) × (text ≡ fault_line name fault)
+      → IsDueFor holds files o valid (compile file) status text
+  due_fault fault name status text a d =
+      subst (λ s. IsDueFor holds files o valid (compile file) s text) (sym d.0) (name, fault, inl a, d.1)
 
--- what is due for the bytes that were read is due for the file
-pub due_of_source : {V : Type 0} (o : Operations V) (valid : V → Type 0) (holds : Option Holdings) (before now : ℕ) (name bytes : List ℕ)
-    (status : Status) (text : List ℕ) → Gives holds name (16777216 + 1) bytes → IsDueOfSource o valid name bytes status text
-    → IsDueFor o valid holds before now (compile name) status text
-due_of_source o valid holds before now name bytes Done text g d = output_of o valid holds name bytes text g d
-due_of_source o valid holds before now name bytes Refused text g d = (not_built holds name bytes g d.0, d.1)
-due_of_source o valid holds before now name bytes Usage text g d = absurd d
-due_of_source o valid holds before now name bytes NoFile text g d = absurd d
-due_of_source o valid holds before now name bytes ReadFault text g d = absurd d
-due_of_source o valid holds before now name bytes WriteFault text g d = absurd d
-due_of_source o valid holds before now name bytes NoMemory text g d = absurd d
+-- the first token
+record FirstToken (tokens : List Token) (first : Token) : Type 0 where
+  rest : List Token
+  begins : tokens ≡ first ∷ rest
 
--- the files told that there is no such file, or a read failed
-pub due_missing : {V : Type 0} (o : Operations V) (valid : V → Type 0) (holds : Option Holdings) (before now : ℕ) (name : List ℕ)
-    (status : Status) (text : List ℕ) → (status ≡ NoFile) × (text ≡ name ++ codes ": no such file\n")
-    → Lacks holds name ⊎ Rose before now → IsDueFor o valid holds before now (compile name) status text
-due_missing o valid holds before now name status text d cause =
-    subst (λ s. IsDueFor o valid holds before now (compile name) s text) (sym d.0) (name, refl, cause, d.1)
+first_token : (tokens : List Token) (d : Token) → 0 < length tokens → FirstToken tokens (slice_index_or tokens 0 d)
+first_token [] d lt = absurd (omega arith)
+first_token (t ∷ tokens) d lt = record { rest = tokens; begins = refl }
 
-pub due_failed : {V : Type 0} (o : Operations V) (valid : V → Type 0) (holds : Option Holdings) (before now : ℕ) (name : List ℕ)
-    (status : Status) (text : List ℕ) → (status ≡ ReadFault) × (text ≡ name ++ codes ": read fault\n")
-    → Rose before now → IsDueFor o valid holds before now (compile name) status text
-due_failed o valid holds before now name status text d cause =
-    subst (λ s. IsDueFor o valid holds before now (compile name) s text) (sym d.0) (name, refl, cause, d.1)
-
-pub due_unbuilt : {V : Type 0} (o : Operations V) (valid : V → Type 0) (file source : List ℕ)
-    (status : Status) (text : List ℕ) → (status ≡ Refused) × (text ≡ file ++ codes ":1:1: Unbuilt\n")
-    → ((form : FirstForm) → IsTextOf source form → ⊥) → IsDueOfSource o valid file source status text
-due_unbuilt o valid file source status text d cause =
-    subst (λ s. IsDueOfSource o valid file source s text) (sym d.0) (cause, d.1)
+pub stands_first : (e : Expanded) (tokens : List Token) (d : Token) → tokens ≡ e.tokens → IsExpanded e
+    → StandsFirst e (record { phase = Rules; at = 0; place = (slice_index_or tokens 0 d).place; code = Unbuilt })
+stands_first e tokens d same is =
+    let n = ap length is.ends in
+    let m = ap length same in
+    let f = first_token tokens d (omega (arith, length-append is.before (is.end ∷ []))) in
+    (slice_index_or tokens 0 d, f.rest, sym same ∙ f.begins, refl)
 
 -- two words, by their places
 pub two_words : {X : Type 0} (f : X → List ℕ) (words : List X) (x y : X) → length words ≡ 2

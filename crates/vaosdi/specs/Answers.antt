@@ -1,73 +1,87 @@
 -- What the program answers: how it ends, what it writes, and from which cause.
-use Rattle.std.specs.Prelude.{◌≡◌, ◌<◌, ◌⊎◌, ℕ, List, ◌++◌, length, Option, Some, None, codes}
+use Rattle.std.specs.Prelude.{◌≡◌, ◌<◌, ◌⊎◌, ℕ, List, [], ◌∷◌, ◌++◌, length, Option, Some, None, codes}
 use Rattle.alg_laws.specs.Operations.{Operations}
 use Rattle.c_tree.specs.declared.short.ShortModule.{ShortModule}
 use Rattle.c_tree.specs.short.Text.{text_of}
 use Rattle.first_form.specs.Form.{FirstForm, IsTextOf}
 use Rattle.first_form.specs.Translation.{IsTranslation}
+use Rattle.va_base.specs.declared.expanded.Expanded.{Expanded}
+use Rattle.va_base.specs.declared.fault.Fault.{Fault}
+use Rattle.va_base.specs.Expansion.{IsExpanded}
 use Rattle.va_io.specs.Outside.{Holdings, held, Lacks, Appends, AppendsSome, Rose}
-use Rattle.vaosdi.specs.Requests.{Request, compile, IsRequest, IsNoRequest}
+use Rattle.va_preproc.specs.Answers.{Seen as FilesSeen, AsksFor, CountsFault, AreFirst, WhereTold, IsExpansion, IsFirstFault, IsMissed}
+use Rattle.va_preproc.specs.Expansion.{limits, expansion, expanded, faulty, texts}
+use Rattle.va_preproc.specs.Reading.{Stop}
+use Rattle.vaosdi.specs.Faults.{fault_line, IsUnbuilt}
+use Rattle.vaosdi.specs.Requests.{Request, compile, IsRequest, IsNoRequest, reads_of}
 use Rattle.vaosdi.specs.declared.status.Status.{Status}
 use Rattle.vaosdi.specs.declared.status.Status.TheVariants.{Done, Refused, Usage, NoFile, ReadFault, WriteFault, NoMemory}
 
--- where it is told what files hold, the file of a name has these bytes
-abbrev pub HasFile : Option Holdings → List ℕ → List ℕ → Type 0
-HasFile None name source = Unit {0}
-HasFile (Some files) name source = held files name ≡ Some source
-
--- where it is told, a file of this name is there, and no text of the first form
-abbrev pub IsNotBuilt : Option Holdings → List ℕ → Type 0
-IsNotBuilt None name = Unit {0}
-IsNotBuilt (Some files) name =
-    (source : List ℕ) × (held files name ≡ Some source) × ((form : FirstForm) → IsTextOf source form → ⊥)
-
--- The C text is the print of a file that is a translation of the source: each run of it loads the residuals that the
--- source contributes, over every algebra.
-pub record IsCompiled {V : Type 0} (o : Operations V) (valid : V → Type 0) (source text : List ℕ) : Type 0 where
+-- The C text is the print of a file that is a translation of the text after expansion: each run of it loads the residuals that
+-- the source contributes, over every algebra.
+pub record IsCompiled {V : Type 0} (o : Operations V) (valid : V → Type 0) (source : Expanded) (text : List ℕ) : Type 0 where
   pub modules : List ShortModule
   pub translation : IsTranslation o valid source modules
   pub print : text ≡ text_of modules
 
--- the output of a request
-abbrev pub IsOutput : {V : Type 0} → Operations V → (V → Type 0) → Option Holdings → Request → List ℕ → Type 0
-IsOutput o valid holds (compile file) text = (source : List ℕ) × HasFile holds file source × IsCompiled o valid source text
-
--- the line for the fault that stands in what a request reads
-abbrev pub IsFaultLine : Option Holdings → Request → List ℕ → Type 0
-IsFaultLine holds (compile file) text = IsNotBuilt holds file × (text ≡ file ++ codes ":1:1: Unbuilt\n")
-
--- a file that is read for a request by the words themselves, not by an include
-abbrev pub IsAsked : Request → List ℕ → Type 0
-IsAsked (compile file) name = name ≡ file
-
 abbrev pub usage_line : List ℕ
 usage_line = codes "usage: vaosdi compile|check|tables|read FILE, or eval FILE POINT, or make|work N\n"
 
--- The text that is due where a request ends with a status: an output, or the reason why there is none. The files' count
--- of faults is that before the call and that after it.
-module _ {V : Type 0} (o : Operations V) (valid : V → Type 0) (holds : Option Holdings) (before now : ℕ) where
-  abbrev pub IsDueFor : Request → Status → List ℕ → Type 0
-  IsDueFor request Done text = IsOutput o valid holds request text
-  IsDueFor request Refused text = IsFaultLine holds request text
-  IsDueFor request NoFile text =
-      (name : List ℕ) × IsAsked request name × (Lacks holds name ⊎ Rose before now) × (text ≡ name ++ codes ": no such file\n")
-  IsDueFor request ReadFault text =
-      (name : List ℕ) × IsAsked request name × Rose before now × (text ≡ name ++ codes ": read fault\n")
-  IsDueFor request Usage text = ⊥
-  IsDueFor request WriteFault text = ⊥
-  IsDueFor request NoMemory text = ⊥
+-- What is due for a request, over what the files hold, where it is told, and what is seen of them in the call.
+module _ (holds : Option Holdings) (files : FilesSeen) where
+  -- a file was expanded to this text, and all that it reads was asked for
+  abbrev pub IsSource : List ℕ → Expanded → Type 0
+  IsSource file e = IsExpanded e × WhereTold holds (λ h. IsExpansion limits file files h e)
 
-  -- the same for words, which may make no request
-  abbrev pub IsDue : List (List ℕ) → Status → List ℕ → Type 0
-  IsDue words Usage text = IsNoRequest words × (text ≡ usage_line)
-  IsDue words status text = (request : Request) × IsRequest words request × IsDueFor request status text
+  -- a file has this fault, in a file of this name: the first of its expansion; or, where that has none, it is not of the built form
+  abbrev pub HasFault : List ℕ → List ℕ → Fault → Type 0
+  HasFault file name fault =
+      WhereTold holds (λ h. IsFirstFault limits file files h fault name ⊎ IsMissed limits file files h fault name)
+      ⊎ ((e : Expanded) × IsSource file e × IsUnbuilt e name fault)
 
--- The text that is due where a file of this name with these bytes is compiled.
-abbrev pub IsDueOfSource : {V : Type 0} → Operations V → (V → Type 0) → List ℕ → List ℕ → Status → List ℕ → Type 0
-IsDueOfSource o valid file source Done text = IsCompiled o valid source text
-IsDueOfSource o valid file source Refused text =
-    ((form : FirstForm) → IsTextOf source form → ⊥) × (text ≡ file ++ codes ":1:1: Unbuilt\n")
-IsDueOfSource o valid file source _ text = ⊥
+  -- the file of the words is not there, and no other was asked for
+  abbrev pub IsLacking : List ℕ → Type 0
+  IsLacking file = (Lacks holds file ⊎ CountsFault files) × AsksFor files (file ∷ [])
+
+  -- a read failed: it is that of the last name that was asked for, and one of the reads of the request
+  abbrev pub HasFailed : Request → List ℕ → Type 0
+  HasFailed request name =
+      (names : List (List ℕ)) × CountsFault files × AsksFor files (names ++ name ∷ [])
+      × WhereTold holds (λ h. AreFirst (names ++ name ∷ []) (reads_of h request))
+
+  -- the output of a request
+  abbrev pub IsOutput : {V : Type 0} → Operations V → (V → Type 0) → Request → List ℕ → Type 0
+  IsOutput o valid (compile file) text = (e : Expanded) × IsSource file e × IsCompiled o valid e text
+
+  -- the line for the fault that stands in what a request reads
+  abbrev pub IsFaultLine : Request → List ℕ → Type 0
+  IsFaultLine (compile file) text = (name : List ℕ) × (fault : Fault) × HasFault file name fault × (text ≡ fault_line name fault)
+
+  -- the line for a file that is read by the words themselves, not by an include, and is not there
+  abbrev pub IsLackLine : Request → List ℕ → Type 0
+  IsLackLine (compile file) text = IsLacking file × (text ≡ file ++ codes ": no such file\n")
+
+  -- The text that is due where a request ends with a status: an output, or the reason why there is none.
+  module _ {V : Type 0} (o : Operations V) (valid : V → Type 0) where
+    abbrev pub IsDueFor : Request → Status → List ℕ → Type 0
+    IsDueFor request Done text = IsOutput o valid request text
+    IsDueFor request Refused text = IsFaultLine request text
+    IsDueFor request NoFile text = IsLackLine request text
+    IsDueFor request ReadFault text = (name : List ℕ) × HasFailed request name × (text ≡ name ++ codes ": read fault\n")
+    IsDueFor request Usage text = ⊥
+    IsDueFor request WriteFault text = ⊥
+    IsDueFor request NoMemory text = ⊥
+
+    -- the same for words, which may make no request; then nothing is asked for
+    abbrev pub IsDue : List (List ℕ) → Status → List ℕ → Type 0
+    IsDue words Usage text = IsNoRequest words × (files.now ≡ files.before) × (text ≡ usage_line)
+    IsDue words status text = (request : Request) × IsRequest words request × IsDueFor request status text
+
+-- The text that is due where this text after expansion is compiled.
+abbrev pub IsDueOfSource : {V : Type 0} → Operations V → (V → Type 0) → Expanded → Status → List ℕ → Type 0
+IsDueOfSource o valid e Done text = IsCompiled o valid e text
+IsDueOfSource o valid e Refused text = (name : List ℕ) × (fault : Fault) × IsUnbuilt e name fault × (text ≡ fault_line name fault)
+IsDueOfSource o valid e _ text = ⊥
 
 -- the reason why there is no output is written
 abbrev pub IsComplaint : Status → Type 0
@@ -144,17 +158,24 @@ abbrev pub Tells : Option Holdings → (Holdings → Type 0) → Type 0
 Tells None P = ⊥
 Tells (Some files) P = P files
 
+-- what the files hold expands to this text
+abbrev pub Expands : Holdings → List ℕ → Expanded → Type 0
+Expands holds file e = (names : List (List ℕ)) × (expansion holds file ≡ expanded e.tokens names) × (e.files ≡ texts holds names)
+
+-- the expansion has a fault, or its text is not of the built form
+abbrev pub IsRefused : Holdings → List ℕ → Type 0
+IsRefused holds file =
+    ((stop : Stop) × (expansion holds file ≡ faulty stop))
+    ⊎ ((e : Expanded) × Expands holds file e × ((form : FirstForm) → IsTextOf e form → ⊥))
+
 -- What is told of the files and the words decides how a command ends where no count rose, but for want of memory. Words
 -- that make no request need nothing told.
 abbrev pub IsExpected : Option Holdings → List (List ℕ) → Status → Type 0
 IsExpected holds words Done =
-    (file : List ℕ) × IsRequest words (compile file) × Tells holds (λ files.
-    (source : List ℕ) × (held files file ≡ Some source) × ((form : FirstForm) × IsTextOf source form))
-IsExpected holds words Refused =
-    (file : List ℕ) × IsRequest words (compile file) × Tells holds (λ files.
-    (source : List ℕ) × (held files file ≡ Some source) × ((form : FirstForm) → IsTextOf source form → ⊥))
-IsExpected holds words NoFile =
-    (file : List ℕ) × IsRequest words (compile file) × Tells holds (λ files. held files file ≡ None)
+    (file : List ℕ) × IsRequest words (compile file)
+    × Tells holds (λ h. (e : Expanded) × Expands h file e × ((form : FirstForm) × IsTextOf e form))
+IsExpected holds words Refused = (file : List ℕ) × IsRequest words (compile file) × Tells holds (λ h. IsRefused h file)
+IsExpected holds words NoFile = (file : List ℕ) × IsRequest words (compile file) × Tells holds (λ h. held h file ≡ None)
 IsExpected holds words Usage = IsNoRequest words
 IsExpected holds words ReadFault = ⊥
 IsExpected holds words WriteFault = ⊥

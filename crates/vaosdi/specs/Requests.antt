@@ -1,6 +1,8 @@
 -- What the words of a command line ask for, and which files are read for it.
 use Rattle.std.specs.Prelude.{◌≡◌, ℕ, List, [], ◌∷◌, Option, codes}
-use Rattle.va_io.specs.Outside.{Appends}
+use Rattle.va_io.specs.Outside.{Holdings}
+use Rattle.va_preproc.specs.Answers.{Seen, AsksFor, AreFirst, WhereTold}
+use Rattle.va_preproc.specs.Expansion.{expansion, reads}
 
 -- a request, whichever words it came from
 pub data Request : Type 0 where
@@ -19,11 +21,17 @@ IsRequest words request = words ≡ words_of request
 abbrev pub IsNoRequest : List (List ℕ) → Type 0
 IsNoRequest words = (request : Request) → IsRequest words request → ⊥
 
--- the names that are read for a request, in order
-abbrev pub reads_of : Request → List (List ℕ)
-reads_of (compile file) = file ∷ []
+-- the names that are read for a request, in order, where the files hold this
+abbrev pub reads_of : Holdings → Request → List (List ℕ)
+reads_of holds (compile file) = reads (expansion holds file)
 
--- the files were asked for what is read for these words: where it is told, the names stand at the end
-abbrev pub Asks : List (List ℕ) → Option (List (List ℕ)) → Option (List (List ℕ)) → Type 0
-Asks words before now =
-    ((request : Request) → IsRequest words request → Appends before now (reads_of request)) × (IsNoRequest words → now ≡ before)
+-- where it is told what the files hold, they are asked for nothing but what is read for a request, in its order and from its
+-- beginning
+abbrev pub AsksFirst : Option Holdings → Seen → Request → Type 0
+AsksFirst holds files request =
+    WhereTold holds (λ h. (names : List (List ℕ)) × AsksFor files names × AreFirst names (reads_of h request))
+
+-- the same for words; where they make no request, nothing is asked for
+abbrev pub Asks : Option Holdings → Seen → List (List ℕ) → Type 0
+Asks holds files words =
+    ((request : Request) → IsRequest words request → AsksFirst holds files request) × (IsNoRequest words → files.now ≡ files.before)

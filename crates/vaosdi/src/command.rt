@@ -1,6 +1,7 @@
 //! The top call: does what the words of a command line ask for.
-ghost use Rattle.std.specs.Prelude.{◌≡◌, ◌≢◌, ◌⊎◌, ◌≤◌, ◌<◌, List, ℕ, map, string_bytes, length};
-ghost use Rattle.va_io.specs.Outside.{Rose, Appends, AppendsSome};
+ghost use Rattle.std.specs.Prelude.{◌≡◌, ◌⊎◌, map, string_bytes};
+ghost use Rattle.va_io.specs.Outside.{Rose};
+ghost use Rattle.va_preproc.specs.Answers.{seen as seen_files};
 ghost use Rattle.vaosdi.specs.Requests.{Asks};
 ghost use Rattle.vaosdi.specs.Answers.{IsDue, IsComplaint, IsExpected, Ends, EndsOutput, EndsReason, seen};
 
@@ -22,7 +23,9 @@ pub fn run<A: Algebra, F: Files, O: Sink, E: Sink>(
 ) -> Status
     // What is due is written, from its cause, or the first part of it where a sink fails or runs short.
     ensures ends { Ends
-        (IsDue A.ops A.valid (F.holds files.old) (F.faults files.old) (F.faults files.new) (map string_bytes words.now))
+        (IsDue (F.holds files.old)
+        (seen_files (F.asked files.old) (F.asked files.new) (F.faults files.old) (F.faults files.new))
+        A.ops A.valid (map string_bytes words.now))
         (seen (O.written out.old) (O.written out.new) (O.faults out.old) (O.faults out.new) (O.room out.old))
         (seen (E.written err.old) (E.written err.new) (E.faults err.old) (E.faults err.new) (E.room err.old))
         result }
@@ -34,10 +37,11 @@ pub fn run<A: Algebra, F: Files, O: Sink, E: Sink>(
         → (Rose (E.faults err.old) (E.faults err.new) → ⊥)
         → (result ≡ expected) ⊎ (result ≡ Status.NoMemory) }
 
-    // The files are asked for what the words ask for and for nothing else; where memory is refused, perhaps for nothing.
-    ensures asked { (result ≡ Status.NoMemory → ⊥) → Asks (map string_bytes words.now) (F.asked files.old) (F.asked files.new) }
-    ensures asked_less { (F.asked files.new ≡ F.asked files.old)
-        ⊎ Asks (map string_bytes words.now) (F.asked files.old) (F.asked files.new) }
+    // However the call ends, the files are asked for what the words ask for and for nothing else, from its beginning on. What is
+    // due with each status says how far.
+    ensures asked { Asks (F.holds files.old)
+        (seen_files (F.asked files.old) (F.asked files.new) (F.faults files.old) (F.faults files.new))
+        (map string_bytes words.now) }
     ensures held { F.holds files.new ≡ F.holds files.old }
 {
     let Ok(due) = due_for(alloc, law, words, files) else {

@@ -1,22 +1,23 @@
 //! What is due for the words of a command line: the output, or the reason why there is none.
-ghost use Rattle.std.specs.Prelude.{◌≡◌, ◌⊎◌, ◌≤◌, ◌++◌, List, ℕ, map, string_bytes, IfOk, OnOk, OnErr, IsErrOf, length};
-ghost use Rattle.va_io.specs.Outside.{Appends};
+ghost use Rattle.std.specs.Prelude.{◌≡◌, ◌≤◌, ◌++◌, codes, map, string_bytes, IfOk, IsErrOf};
+ghost use Rattle.va_base.specs.Expansion.{IsExpanded};
+ghost use Rattle.va_preproc.specs.Answers.{seen};
 ghost use Rattle.first_form.specs.Form.{FirstForm, IsTextOf};
-ghost use Rattle.vaosdi.specs.Requests.{Request, compile as compile_request, reads_of, Asks};
+ghost use Rattle.vaosdi.specs.Requests.{compile as compile_request, Asks, AsksFirst};
+ghost use Rattle.vaosdi.specs.Faults.{fault_line as fault_line_lem};
 ghost use Rattle.vaosdi.specs.Answers.{IsDue, IsDueFor, IsDueOfSource, IsCompiled, usage_line};
 
+use crate::fault_line::{fault_line, file_name, unbuilt};
 use crate::request::{Command, command_of};
 use crate::status::Status;
 use alg_laws::Algebra;
-use c_print::print;
+use c_print::short::print;
 use first_form::{TranslateErr, translate};
-use std::alloc::{AllocError, Global};
+use std::alloc::Global;
 use std::marker::PhantomData;
-use va_base::NoMemory;
-use va_io::{FileErr, Files};
-
-/// The most bytes that a Verilog-A file may have.
-const MAX_BYTES: usize = 1 << 24;
+use va_base::{Expanded, Fault, Name, NoMemory};
+use va_io::Files;
+use va_preproc::{PreErr, expand};
 
 const USAGE: &str =
     "usage: vaosdi compile|check|tables|read FILE, or eval FILE POINT, or make|work N\n";
@@ -35,11 +36,12 @@ pub fn due_for<A: Algebra, F: Files>(
     words: &[String],
     files: &mut F,
 ) -> Result<Due, NoMemory>
-    ensures due { IfOk result (λ due. IsDue A.ops A.valid (F.holds files.old) (F.faults files.old) (F.faults files.new)
-        (map string_bytes words.now) due.status due.text.items) }
-    ensures asked { OnOk result (Asks (map string_bytes words.now) (F.asked files.old) (F.asked files.new)) }
-    ensures asked_less { OnErr result ((F.asked files.new ≡ F.asked files.old)
-        ⊎ Asks (map string_bytes words.now) (F.asked files.old) (F.asked files.new)) }
+    ensures due { IfOk result (λ due. IsDue (F.holds files.old)
+        (seen (F.asked files.old) (F.asked files.new) (F.faults files.old) (F.faults files.new))
+        A.ops A.valid (map string_bytes words.now) due.status due.text.items) }
+    ensures asked { Asks (F.holds files.old)
+        (seen (F.asked files.old) (F.asked files.new) (F.faults files.old) (F.faults files.new))
+        (map string_bytes words.now) }
     ensures held { F.holds files.new ≡ F.holds files.old }
     ensures later { F.faults files.old ≤ F.faults files.new }
 {
@@ -60,55 +62,97 @@ fn usage(alloc: Global) -> Result<Due, NoMemory>
 }
 
 /// A reason that begins with a file's name.
-fn complaint(alloc: Global, status: Status, name: &str, reason: &str) -> Result<Due, NoMemory>
+fn complaint(alloc: Global, status: Status, name: &[u8], reason: &str) -> Result<Due, NoMemory>
     ensures { IfOk result (λ due. (due.status ≡ status) × (due.text.items ≡ name.now ++ reason.now)) }
 {
-    let mut text = Vec::from_slice(alloc, name.as_bytes())?;
+    let mut text = Vec::from_slice(alloc, name)?;
     text.extend_from_slice(reason.as_bytes())?;
     Ok(Due { status, text })
 }
 
+/// The reason where there is no file of the name that the words give.
+fn no_such_file(alloc: Global, file: &str) -> Result<Due, NoMemory>
+    ensures { IfOk result
+        (λ due. (due.status ≡ Status.NoFile) × (due.text.items ≡ file.now ++ codes ": no such file\n")) }
+{
+    complaint(alloc, Status::NoFile, file.as_bytes(), ": no such file\n")
+}
+
+/// The reason where the read of a file failed.
+fn read_fault(alloc: Global, name: &Name) -> Result<Due, NoMemory>
+    ensures { IfOk result
+        (λ due. (due.status ≡ Status.ReadFault) × (due.text.items ≡ name.now ++ codes ": read fault\n")) }
+{
+    complaint(alloc, Status::ReadFault, name.as_bytes(), ": read fault\n")
+}
+
+/// The reason that a fault is, which stands in a file of this name.
+fn refusal(alloc: Global, name: &[u8], fault: &Fault) -> Result<Due, NoMemory>
+    ensures { IfOk result
+        (λ due. (due.status ≡ Status.Refused) × (due.text.items ≡ fault_line_lem name.now fault.now)) }
+{
+    let text = fault_line(alloc, name, fault)?;
+    Ok(Due {
+        status: Status::Refused,
+        text,
+    })
+}
+
+/// The same, by the name of the file.
+fn refused(alloc: Global, name: &Name, fault: &Fault) -> Result<Due, NoMemory>
+    ensures { IfOk result
+        (λ due. (due.status ≡ Status.Refused) × (due.text.items ≡ fault_line_lem name.now fault.now)) }
+{
+    let due = refusal(alloc, name.as_bytes(), fault)?;
+    Ok(due)
+}
+
 /// What is due where a file is to be compiled.
+#[tactic(auto, using(crate::proofs::AskedNames::asks_first))]
 fn compile<A: Algebra, F: Files>(
     alloc: Global,
     law: PhantomData<A>,
     file: &str,
     files: &mut F,
 ) -> Result<Due, NoMemory>
-    ensures due { IfOk result (λ due. IsDueFor A.ops A.valid (F.holds files.old) (F.faults files.old) (F.faults files.new)
-        (compile_request file.now) due.status due.text.items) }
-    ensures asked { OnOk result (Appends (F.asked files.old) (F.asked files.new) (reads_of (compile_request file.now))) }
-    ensures asked_less { OnErr result ((F.asked files.new ≡ F.asked files.old)
-        ⊎ Appends (F.asked files.old) (F.asked files.new) (reads_of (compile_request file.now))) }
+    ensures due { IfOk result (λ due. IsDueFor (F.holds files.old)
+        (seen (F.asked files.old) (F.asked files.new) (F.faults files.old) (F.faults files.new))
+        A.ops A.valid (compile_request file.now) due.status due.text.items) }
+    ensures asked { AsksFirst (F.holds files.old)
+        (seen (F.asked files.old) (F.asked files.new) (F.faults files.old) (F.faults files.new))
+        (compile_request file.now) }
     ensures held { F.holds files.new ≡ F.holds files.old }
     ensures later { F.faults files.old ≤ F.faults files.new }
 {
-    // One byte more than the limit tells a file that passes it.
-    match files.read(alloc, file, MAX_BYTES + 1) {
+    match expand(alloc, files, file) {
         Ok(source) => {
-            let due = translated(alloc, law, file, source.as_slice())?;
+            let due = translated(alloc, law, &source)?;
             Ok(due)
         }
-        Err(FileErr::Missing) => {
-            let due = complaint(alloc, Status::NoFile, file, ": no such file\n")?;
+        Err(PreErr::Fault { fault, name }) => {
+            let due = refused(alloc, &name, &fault)?;
             Ok(due)
         }
-        Err(FileErr::Failed) => {
-            let due = complaint(alloc, Status::ReadFault, file, ": read fault\n")?;
+        Err(PreErr::Missing) => {
+            let due = no_such_file(alloc, file)?;
             Ok(due)
         }
-        Err(FileErr::NoMemory) => Err(NoMemory),
+        Err(PreErr::Failed { name }) => {
+            let due = read_fault(alloc, &name)?;
+            Ok(due)
+        }
+        Err(PreErr::NoMemory) => Err(NoMemory),
     }
 }
 
-/// What is due where a file with these bytes is to be compiled.
+/// What is due where a text is to be compiled.
 fn translated<A: Algebra>(
     alloc: Global,
     law: PhantomData<A>,
-    file: &str,
-    source: &[u8],
+    source: &Expanded,
 ) -> Result<Due, NoMemory>
-    ensures { IfOk result (λ due. IsDueOfSource A.ops A.valid file.now source.now due.status due.text.items) }
+    requires expanded { IsExpanded source.now }
+    ensures { IfOk result (λ due. IsDueOfSource A.ops A.valid source.now due.status due.text.items) }
 {
     match c_text(alloc, law, source) {
         Ok(text) => Ok(Due {
@@ -116,7 +160,9 @@ fn translated<A: Algebra>(
             text,
         }),
         Err(TranslateErr::Unbuilt) => {
-            let due = complaint(alloc, Status::Refused, file, ":1:1: Unbuilt\n")?;
+            let fault = unbuilt(source);
+            let name = file_name(source.files.as_list(), fault.place.file);
+            let due = refusal(alloc, name, &fault)?;
             Ok(due)
         }
         Err(TranslateErr::NoMemory) => Err(NoMemory),
@@ -127,10 +173,11 @@ fn translated<A: Algebra>(
 fn c_text<A: Algebra>(
     alloc: Global,
     law: PhantomData<A>,
-    source: &[u8],
+    source: &Expanded,
 ) -> Result<Vec<u8>, TranslateErr>
     ensures compiled { IfOk result (λ text. IsCompiled A.ops A.valid source.now text.items) }
-    ensures unbuilt { IsErrOf result TranslateErr.Unbuilt → (form : FirstForm) → IsTextOf source.now form → ⊥ }
+    ensures unbuilt { IsErrOf result TranslateErr.Unbuilt
+        → (form : FirstForm) → IsTextOf source.now form → ⊥ }
 {
     let file = translate(alloc, source, law)?;
     match print(alloc, &file) {

@@ -3,6 +3,7 @@
 
 pub mod command;
 mod due;
+mod fault_line;
 mod request;
 pub mod status;
 #[cfg(test)]

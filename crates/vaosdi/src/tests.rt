@@ -4,12 +4,26 @@ use crate::status::Status;
 use alg_laws::{Dual, Whole};
 use std::alloc::{AllocError, Global};
 use std::marker::PhantomData;
+use std::process::Abort;
 use std::test::Fail;
 use va_base::{FileText, Items, Name};
 use va_io::{MemFiles, MemSink};
 
 const RESISTOR: &str =
     "module m(a, c); inout a, c; electrical a, c; parameter real r = 1; analog I(a, c) <+ V(a, c) / r; endmodule";
+
+/// A nature's header file.
+const DISCIPLINES: &str = "nature Voltage
+units = \"V\"; access = V; abstol = 1e-6;
+endnature
+nature Current
+units = \"A\"; access = I; abstol = 1e-12;
+endnature
+discipline electrical
+potential Voltage; flow Current;
+enddiscipline
+// end
+";
 
 const USAGE: &str =
     "usage: vaosdi compile|check|tables|read FILE, or eval FILE POINT, or make|work N\n";
@@ -38,18 +52,21 @@ const NONE: Faults = Faults {
     take: 4096,
 };
 
-/// Runs a command, its words parted by single spaces, where `m.va` holds a text.
-fn answer_to(
+fn file(alloc: Global, name: &str, text: &[u8]) -> Result<FileText, AllocError> {
+    Ok(FileText {
+        name: Name::new(name.as_bytes().to_vec(alloc)?),
+        bytes: Items::new(text.to_vec(alloc)?),
+    })
+}
+
+/// Runs a command, its words parted by single spaces, on these files.
+fn answer_over(
     alloc: Global,
     command: &str,
-    text: &[u8],
+    list: Vec<FileText>,
     faults: Faults,
 ) -> Result<Answer, AllocError> {
-    let file = FileText {
-        name: Name::new(b"m.va".to_vec(alloc)?),
-        bytes: Items::new(text.to_vec(alloc)?),
-    };
-    let mut files = MemFiles::new(alloc, vec![in alloc; file]?, vec![in alloc; faults.read]?);
+    let mut files = MemFiles::new(alloc, list, vec![in alloc; faults.read]?);
     let take = faults.take.max(1);
     let mut out = MemSink::new(alloc, take, vec![in alloc; faults.out]?);
     let mut err = MemSink::new(alloc, take, vec![in alloc; faults.err]?);
@@ -64,6 +81,34 @@ fn answer_to(
         out: out.bytes().to_vec(alloc)?,
         err: err.bytes().to_vec(alloc)?,
     })
+}
+
+/// Runs a command where `m.va` holds a text.
+fn answer_to(
+    alloc: Global,
+    command: &str,
+    text: &[u8],
+    faults: Faults,
+) -> Result<Answer, AllocError> {
+    let list = vec![in alloc; file(alloc, "m.va", text)?]?;
+    answer_over(alloc, command, list, faults)
+}
+
+/// Whether a command ended with this line as its reason, or, where the line is empty, with its output.
+fn assert_ends(rt: &impl Abort, end: &Answer, line: &str, what: &str) {
+    let mut reason = end.err.as_slice();
+    if let Some((last, front)) = reason.split_last() {
+        assert_eq!(rt; *last, b'\n', "{what}");
+        reason = front;
+    }
+    assert_eq!(rt; reason, line.as_bytes(), "{what}");
+    let status = if line.is_empty() {
+        Status::Done
+    } else {
+        Status::Refused
+    };
+    assert_eq!(rt; end.status, status, "{what}");
+    assert_eq!(rt; end.out.is_empty(), status != Status::Done, "{what}");
 }
 
 #[test]
@@ -81,6 +126,8 @@ fn a_resistor_is_compiled(rt: HostRuntime) -> Result<(), Fail> {
 
 const UNBUILT: &str = "m.va:1:1: Unbuilt\n";
 
+const BAD_TOKEN: &str = "m.va:1:1: BadToken\n";
+
 const UNDECLARED: &str =
     "module m(a, c); inout a, c; electrical a, c; parameter real r = 1; analog I(a, c) <+ V(a, c) / q; endmodule";
 
@@ -89,7 +136,7 @@ const COMMANDS: [(&str, &str, Status, &str); 19] = [
     ("compile m.va", RESISTOR, Status::Done, ""),
     ("compile m.va", UNDECLARED, Status::Refused, UNBUILT),
     ("compile m.va", "", Status::Refused, UNBUILT),
-    ("compile m.va", "\u{e9}\u{7ff}", Status::Refused, UNBUILT),
+    ("compile m.va", "\u{e9}\u{7ff}", Status::Refused, BAD_TOKEN),
     (
         "compile none.va",
         RESISTOR,
@@ -208,7 +255,194 @@ fn a_file_past_its_limit_is_refused(rt: HostRuntime) -> Result<(), Fail> {
     text.push(b' ')?;
     let past = answer_to(rt.alloc(), "compile m.va", text.as_slice(), NONE)?;
     assert_eq!(rt; past.status, Status::Refused);
-    assert_eq!(rt; past.err.as_slice(), "m.va:1:1: Unbuilt\n".as_bytes());
+    assert_eq!(rt; past.err.as_slice(), "m.va:1:1: FileLarge\n".as_bytes());
+    Ok(())
+}
+
+/// Texts with their macros, conditional text and includes. A row has the command and, behind `>`, the line that it ends with,
+/// none where it writes its output; then, behind each `@`, a file's name, `:` and the file. `r.h` has the resistor, and
+/// `disc.h` the disciplines. Rows are parted by `~`.
+const TEXTS: &str = "compile m.va>@m.va:`include \"r.h\"
+~compile m.va>@m.va:`define D(x) V(a, c) / x
+module m(a, c); inout a, c; electrical a, c; parameter real r = 1; analog I(a, c) <+ `D(r); endmodule
+~compile m.va>@m.va:// the first form
+`ifdef __VAMS_ENABLE__ `include \"r.h\"
+`else `NO ' \"
+`endif
+~compile m.va>@m.va:`define MODULE module m
+`timescale 1ns / 1ns
+`MODULE (a, c); `include \"ports.h\" ; parameter real r = 1_0; analog I(a, c) <+ V(a, \\c ) / r; endmodule
+@ports.h:inout a, c; electrical a, c
+~compile d/m.va>@d/m.va:`include \"e/b.h\"
+@d/e/b.h:`include \"/r.h\"
+@/r.h:`include \"c.h\"
+@/c.h:module m(a, c); inout a, c; electrical a, c; analog I(a, c) <+ V(a, c); endmodule
+~compile m.va>m.va:2:1: Unbuilt@m.va:
+~compile m.va>m.va:3:2: Unbuilt@m.va:
+
+ ~compile m.va>m.va:3:4: Unbuilt@m.va:// a comment
+/* and
+*/ module m(a, c); endmodule
+~compile m.va>disc.h:1:1: Unbuilt@m.va:`include \"disc.h\"
+module m(a, c);
+inout a, c;
+electrical a, c;
+analog I(a, c) <+ 0;
+endmodule
+~compile d/m.va>d/e/b.h:2:2: Unbuilt@d/m.va:`include \"e/b.h\"
+@d/e/b.h:
+ endmodule
+~compile m.va>m.va:3:2: Unbuilt@m.va:`include \"word.h\"
+
+ `WORD m
+@word.h:`define WORD module
+~compile m.va>m.va:2:1: Unbuilt@m.va:`include \"disc.h\" `include \"r.h\"
+@disc.h:
+@r.h:// nothing
+~compile m.va>m.va:1:1: Conditional@m.va:`elsif
+~compile m.va>b.h:1:3: Conditional@m.va:`include \"b.h\"
+@b.h:x `endif
+~compile m.va>m.va:6:12: BadToken@m.va:`include \"disc.h\"
+module m(a, c);
+inout a, c;
+electrical a, c;
+real x;
+analog x = 1e10000;
+endmodule
+~compile m.va>m.va:8:12: MacroSelf@m.va:`include \"disc.h\"
+module m(a, c);
+inout a, c;
+electrical a, c;
+`define A `B
+`define B `A
+real x;
+analog x = `A;
+endmodule
+~compile m.va>m.va:1:3: UnknownMacro@m.va:x `NO
+~compile m.va>m.va:2:1: MacroArgs@m.va:`define O(x) x
+`O(1, 2)
+~compile m.va>m.va:1:1: Directive@m.va:`define define 1
+~compile m.va>m.va:1:1: MissingInclude@m.va:`include \"gone.h\"
+~compile m.va>d/b.h:2:3: MissingInclude@m.va:`include \"d/b.h\"
+@d/b.h:
+  `include \"m.va\"
+~compile m.va>m.va:1:1: IncludeDeep@m.va:`include \"m.va\"
+";
+
+fn row_files(alloc: Global, row: &str) -> Result<Vec<FileText>, Fail> {
+    let mut list = Vec::new(alloc);
+    for part in row.split('@').skip(1) {
+        let (name, text) = part.split_once(':').ok_or("a file without a name")?;
+        list.push(file(alloc, name, text.as_bytes())?)?;
+    }
+    list.push(file(alloc, "r.h", RESISTOR.as_bytes())?)?;
+    list.push(file(alloc, "disc.h", DISCIPLINES.as_bytes())?)?;
+    Ok(list)
+}
+
+#[test]
+fn texts_are_expanded(rt: HostRuntime) -> Result<(), Fail> {
+    for row in TEXTS.split('~') {
+        let (command, rest) = row.split_once('>').ok_or("a row without a command")?;
+        let (line, _) = rest.split_once('@').ok_or("a row without a file")?;
+        let list = row_files(rt.alloc(), row)?;
+        let end = answer_over(rt.alloc(), command, list, NONE)?;
+        assert_ends(&rt, &end, line, row);
+    }
+    Ok(())
+}
+
+/// Macros of which each uses the one before it so often, the first being `1`, and then a use of one of them.
+fn macros(alloc: Global, count: u32, uses: u32, used: u32) -> Result<String, AllocError> {
+    let mut text = String::from_str(alloc, "`define M0")?;
+    for _ in 0..uses {
+        text.push_str(" 1")?;
+    }
+    for i in 1..count {
+        let before = i.saturating_sub(1);
+        text.push_str(format!(in alloc; "\n`define M{i}")?.as_str())?;
+        for _ in 0..uses {
+            text.push_str(format!(in alloc; " `M{before}")?.as_str())?;
+        }
+    }
+    text.push_str(format!(in alloc; "\n`M{used}\n")?.as_str())?;
+    Ok(text)
+}
+
+#[test]
+fn macros_are_limited(rt: HostRuntime) -> Result<(), Fail> {
+    let rows = [
+        (64, 1, 63, "m.va:65:1: Unbuilt"),
+        (65, 1, 63, "m.va:66:1: Unbuilt"),
+        (65, 1, 64, "m.va:66:1: MacroDeep"),
+        (26, 2, 25, "m.va:27:1: TokensMany"),
+        (26, 2, 10, "m.va:27:1: Unbuilt"),
+    ];
+    for (count, uses, used, line) in rows {
+        let text = macros(rt.alloc(), count, uses, used)?;
+        let end = answer_to(rt.alloc(), "compile m.va", text.as_bytes(), NONE)?;
+        assert_ends(&rt, &end, line, line);
+    }
+    Ok(())
+}
+
+/// The files `f0.va`, `f1.h` and so on up to the one of this number, each of which includes the next; the last one has this text.
+fn chain(alloc: Global, last: u32, text: &str) -> Result<Vec<FileText>, AllocError> {
+    let mut list = Vec::new(alloc);
+    for i in 0..last {
+        let next = i.saturating_add(1);
+        let name = if i == 0 {
+            "f0.va".to_string(alloc)?
+        } else {
+            format!(in alloc; "f{i}.h")?
+        };
+        let include = format!(in alloc; "`include \"f{next}.h\"\n")?;
+        list.push(file(alloc, name.as_str(), include.as_bytes())?)?;
+    }
+    let name = format!(in alloc; "f{last}.h")?;
+    list.push(file(alloc, name.as_str(), text.as_bytes())?)?;
+    Ok(list)
+}
+
+#[test]
+fn includes_are_limited(rt: HostRuntime) -> Result<(), Fail> {
+    let rows = [
+        (32, "", "f0.va:2:1: Unbuilt"),
+        (32, RESISTOR, ""),
+        (32, "`include \"f33.h\"\n", "f32.h:1:1: IncludeDeep"),
+        (31, "`include \"f33.h\"\n", "f31.h:1:1: MissingInclude"),
+    ];
+    for (last, text, line) in rows {
+        let list = chain(rt.alloc(), last, text)?;
+        let end = answer_over(rt.alloc(), "compile f0.va", list, NONE)?;
+        assert_ends(&rt, &end, line, line);
+    }
+    Ok(())
+}
+
+/// Files that fail at each of the five reads, and at none.
+#[test]
+fn each_read_may_fail(rt: HostRuntime) -> Result<(), Fail> {
+    let row = "@m.va:`include \"a.h\"
+`include \"b.h\"
+@a.h:`include \"b.h\" // and once more below
+@b.h:`ifndef B
+`define B
+`include \"r.h\"
+`endif
+";
+    let names = ["m.va", "a.h", "b.h", "r.h", "b.h"];
+    for (read, name) in (1u64..).zip(names) {
+        let list = row_files(rt.alloc(), row)?;
+        let end = answer_over(rt.alloc(), "compile m.va", list, Faults { read, ..NONE })?;
+        assert_eq!(rt; end.status, Status::ReadFault, "{read}");
+        let reason = format!(in rt.alloc(); "{name}: read fault\n")?;
+        assert_eq!(rt; end.err.as_slice(), reason.as_bytes(), "{read}");
+        assert!(rt; end.out.is_empty(), "{read}");
+    }
+    let list = row_files(rt.alloc(), row)?;
+    let end = answer_over(rt.alloc(), "compile m.va", list, Faults { read: 6, ..NONE })?;
+    assert_ends(&rt, &end, "", "no read fails");
     Ok(())
 }
 

@@ -2,7 +2,8 @@ use Rattle.std.proofs.Common.{◌≡◌, refl, map, string_bytes, rules, subst}
 use Rattle.std.specs.Prelude.{List, ℕ}
 use Rattle.vaosdi.specs.declared.status.Status.{Status}
 use Rattle.vaosdi.specs.declared.status.Status.TheVariants.{Done}
-use Rattle.vaosdi.specs.Answers.{Seen, seen, IsDue, IsComplaint, EndsOutput, EndsReason, Ends}
+use Rattle.va_preproc.specs.Answers.{seen as seen_files}
+use Rattle.vaosdi.specs.Answers.{seen, IsDue, IsComplaint, EndsReason, Ends}
 use Rattle.vaosdi.proofs.Ending.{ends_delivered, ends_complained}
 use Rattle.vaosdi.proofs.Expected.{as_expected}
 use Rattle.vaosdi.proofs.command.run.Goals as goal
@@ -13,9 +14,10 @@ returns-then-eq-clause-ends g c =
     let E = g.E.Sink in
     let args = c.args in
     let wrote = c.deliver.new.out in
+    let files = seen_files (g.F.Files.asked args.files.now) (g.F.Files.asked c.due_for.new.files) (g.F.Files.faults args.files.now)
+    (g.F.Files.faults c.due_for.new.files) in
     let due : Status → List ℕ → Type 0 =
-    IsDue g.A.Algebra.ops g.A.Algebra.valid (g.F.Files.holds args.files.now) (g.F.Files.faults args.files.now)
-    (g.F.Files.faults c.due_for.new.files) (map string_bytes args.words.now) in
+    IsDue (g.F.Files.holds args.files.now) files g.A.Algebra.ops g.A.Algebra.valid (map string_bytes args.words.now) in
     let out = seen (O.written args.out.now) (O.written wrote) (O.faults args.out.now) (O.faults wrote) (O.room args.out.now) in
     let err = seen (E.written args.err.now) (E.written args.err.now) (E.faults args.err.now) (E.faults args.err.now) (E.room args.err.now) in
     let is_done : c.in-Ok.due.status ≡ Done = search rules in
@@ -30,9 +32,10 @@ returns-clause-expected g c expected told steady out_steady err_steady =
     let E = g.E.Sink in
     let args = c.args in
     let wrote = c.complain.new.err in
+    let files = seen_files (g.F.Files.asked args.files.now) (g.F.Files.asked c.due_for.new.files) (g.F.Files.faults args.files.now)
+    (g.F.Files.faults c.due_for.new.files) in
     let due : Status → List ℕ → Type 0 =
-    IsDue g.A.Algebra.ops g.A.Algebra.valid (g.F.Files.holds args.files.now) (g.F.Files.faults args.files.now)
-    (g.F.Files.faults c.due_for.new.files) (map string_bytes args.words.now) in
+    IsDue (g.F.Files.holds args.files.now) files g.A.Algebra.ops g.A.Algebra.valid (map string_bytes args.words.now) in
     let out = seen (O.written args.out.now) (O.written args.out.now) (O.faults args.out.now) (O.faults args.out.now) (O.room args.out.now) in
     let err = seen (E.written args.err.now) (E.written wrote) (E.faults args.err.now) (E.faults wrote) (E.room args.err.now) in
     let reason : IsComplaint c.in-Ok.due.status = search rules in
@@ -40,6 +43,5 @@ returns-clause-expected g c expected told steady out_steady err_steady =
     rw (← c.as_slice-else-eq.ensures.value) c.complain.ensures in
     let ends : Ends due out err c.complain.result =
     ends_complained due out err c.in-Ok.due.text.items c.in-Ok.due.status c.complain.result c.in-Ok.ensures.due reason refl ended in
-    as_expected g.A.Algebra.ops g.A.Algebra.valid (g.F.Files.holds args.files.now) (g.F.Files.faults args.files.now)
-    (g.F.Files.faults c.due_for.new.files) (map string_bytes args.words.now) out err c.complain.result ends expected told steady
+    as_expected g.A.Algebra.ops g.A.Algebra.valid (g.F.Files.holds args.files.now) files (map string_bytes args.words.now) out err c.complain.result ends expected told steady
     out_steady err_steady
