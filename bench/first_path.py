@@ -11,10 +11,9 @@ import argparse
 import os
 import sys
 import tempfile
-import time
 
-TOP = os.path.dirname(os.path.dirname(os.path.abspath(__file__)))
-PROGRAM = os.path.join(TOP, 'crates', 'vaosdi', 'out', 'vaosdi')
+from measure import PROGRAM, is_built, measured
+
 MOST = 2.2
 # Below this many seconds a time says nothing of the text.
 FLOOR = 0.02
@@ -33,33 +32,18 @@ def text_of(params, terms):
     return '\n'.join(lines) + '\n'
 
 
-def measured(folder, text, runs):
-    """The least seconds, and the peak memory in MB, of so many runs."""
+def compiled(folder, text, runs):
+    """What the compilation of a text took."""
     with open(os.path.join(folder, 'm.va'), 'w') as file:
         file.write(text)
-    best, peak = None, 0
-    for _ in range(runs):
-        start = time.perf_counter()
-        child = os.fork()
-        if child == 0:
-            os.chdir(folder)
-            null = os.open(os.devnull, os.O_WRONLY)
-            os.dup2(null, 1)
-            os.dup2(null, 2)
-            os.execv(PROGRAM, [PROGRAM, 'compile', 'm.va'])
-        _, status, usage = os.wait4(child, 0)
-        seconds = time.perf_counter() - start
-        best = seconds if best is None else min(best, seconds)
-        peak = max(peak, usage.ru_maxrss / 1024)
-    return os.waitstatus_to_exitcode(status), best, peak
+    return measured(folder, [PROGRAM, 'compile', 'm.va'], runs)
 
 
 def main():
     words = argparse.ArgumentParser(description=__doc__, formatter_class=argparse.RawDescriptionHelpFormatter)
     words.add_argument('--runs', type=int, default=3)
     runs = words.parse_args().runs
-    if not os.access(PROGRAM, os.X_OK):
-        print('bench: the program is not built')
+    if not is_built():
         return 0
     cases = [(f'{n} parameters', n, lambda n: text_of(n, 100), 0) for n in (10, 1000, 2000)]
     cases += [(f'{n} terms', n, lambda n: text_of(10, n), 0) for n in (1000, 10000, 100000)]
@@ -68,8 +52,8 @@ def main():
     print(f'{"text":>20} {"n: s":>9} {"MB":>8} {"2n: s":>9} {"MB":>8} {"s":>6} {"MB":>6}')
     with tempfile.TemporaryDirectory() as folder:
         for name, n, make, wanted in cases:
-            first, one, small = measured(folder, make(n), runs)
-            second, two, large = measured(folder, make(2 * n), runs)
+            first, one, small = compiled(folder, make(n), runs)
+            second, two, large = compiled(folder, make(2 * n), runs)
             times = two / one if two > FLOOR else 1.0
             sizes = large / small
             note = '' if times <= MOST and sizes <= MOST else '  above'

@@ -1,0 +1,38 @@
+"""What the benches share: the program, and how a command is measured."""
+import os
+import sys
+import time
+
+TOP = os.path.dirname(os.path.dirname(os.path.abspath(__file__)))
+PROGRAM = os.path.join(TOP, 'crates', 'vaosdi', 'out', 'vaosdi')
+
+
+def is_built():
+    """Whether the program is there; a line says so where it isn't."""
+    built = os.access(PROGRAM, os.X_OK)
+    if not built:
+        print('bench: the program is not built')
+    return built
+
+
+def measured(folder, words, runs):
+    """The status, the least seconds, and the peak memory in MB of so many runs of a command in a folder.
+
+    The peak of a child counts what this process holds when it starts it, so texts are written in pieces and not kept.
+    """
+    best, peak = None, 0
+    for _ in range(runs):
+        sys.stdout.flush()
+        start = time.perf_counter()
+        child = os.fork()
+        if child == 0:
+            os.chdir(folder)
+            null = os.open(os.devnull, os.O_WRONLY)
+            os.dup2(null, 1)
+            os.dup2(null, 2)
+            os.execvp(words[0], words)
+        _, status, usage = os.wait4(child, 0)
+        seconds = time.perf_counter() - start
+        best = seconds if best is None else min(best, seconds)
+        peak = max(peak, usage.ru_maxrss / 1024)
+    return os.waitstatus_to_exitcode(status), best, peak
