@@ -15,13 +15,10 @@ import shutil
 import sys
 import tempfile
 
-from measure import PROGRAM, is_built, measured
+from measure import FLOOR, GROWTH, PROGRAM, is_built, measured
 
 TIMES = 12
-GROWTH = 2.2
 BYTES = 128
-# Below this many seconds a time says nothing of the text.
-FLOOR = 0.02
 SIZE = (16 << 20) - 64
 
 # 17 tokens each, the line end among them.
@@ -71,6 +68,23 @@ def formals(tokens):
     return text
 
 
+def named(tokens):
+    """One macro of that many formals, and a use of it: each name is found among all of them."""
+    def text(write):
+        write('`define MANY(first')
+        for at in range(1, tokens):
+            write(f', x{at}')
+        write(') first')
+        for at in range(1, tokens):
+            write(f' x{at}')
+        write('\n`MANY(1')
+        for _ in range(1, tokens):
+            write(', 1')
+        write(')\n')
+        return tokens
+    return text
+
+
 def uses(tokens, each):
     """Uses of a macro that gives so many tokens."""
     def text(write):
@@ -102,13 +116,13 @@ class Bench:
         self.base = 0
         self.base = self.expanded('an empty text', empty)[1]
 
-    def expanded(self, name, text, beside=None):
+    def expanded(self, name, text, beside=None, bounded=True):
         """Prints what a text took, and gives its seconds and peak."""
         size, result = written(self.folder, text)
         status, seconds, peak = measured(self.folder, [PROGRAM, 'compile', 'm.va'], self.runs)
         notes = [] if status == 1 else [f'status {status}']
         most = self.base + (BYTES * result + size) / (1 << 20)
-        if result and peak > most:
+        if bounded and result and peak > most:
             notes.append(f'memory above {most:.0f} MB')
         factor = ''
         if beside is not None:
@@ -120,10 +134,10 @@ class Bench:
         print(f'{name:>36} {size / (1 << 20):7.1f} {result:9} {seconds:8.3f} {peak:8.1f} {factor:>9}  {", ".join(notes)}')
         return seconds, peak
 
-    def grows(self, name, text, tokens):
+    def grows(self, name, text, tokens, bounded=True):
         """The same text at so many tokens and at twice as many."""
-        one, _ = self.expanded(f'{name}, n', text(tokens))
-        two, _ = self.expanded(f'{name}, 2n', text(2 * tokens))
+        one, _ = self.expanded(f'{name}, n', text(tokens), bounded=bounded)
+        two, _ = self.expanded(f'{name}, 2n', text(2 * tokens), bounded=bounded)
         times = two / one if two > FLOOR else 1.0
         note = '' if times <= GROWTH else f'above {GROWTH}'
         self.passed += bool(note)
@@ -144,6 +158,8 @@ def main():
         bench.expanded('skipped text', skipped, wc)
         bench.grows('macros that double', doubling, 990_000)
         bench.grows('arguments that formals give', formals, 950_000)
+        # Its text has six tokens for each of the result, so the bound of memory is not asked of it.
+        bench.grows('a macro of that many formals', named, 200_000, bounded=False)
         bench.grows('uses of one token', lambda n: uses(n, 1), 600_000)
         bench.grows('uses of 1000 tokens', lambda n: uses(n, 1000), 600_000)
     return 1 if bench.passed else 0

@@ -12,11 +12,7 @@ import os
 import sys
 import tempfile
 
-from measure import PROGRAM, is_built, measured
-
-MOST = 2.2
-# Below this many seconds a time says nothing of the text.
-FLOOR = 0.02
+from measure import FLOOR, GROWTH, PROGRAM, is_built, measured
 
 
 def text_of(params, terms):
@@ -56,7 +52,7 @@ def main():
             second, two, large = compiled(folder, make(2 * n), runs)
             times = two / one if two > FLOOR else 1.0
             sizes = large / small
-            note = '' if times <= MOST and sizes <= MOST else '  above'
+            note = '' if times <= GROWTH and sizes <= GROWTH else '  above'
             if (first, second) != (wanted, wanted):
                 note += f'  status {first}, {second}'
             late += bool(note)

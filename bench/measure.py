@@ -5,6 +5,10 @@ import time
 
 TOP = os.path.dirname(os.path.dirname(os.path.abspath(__file__)))
 PROGRAM = os.path.join(TOP, 'crates', 'vaosdi', 'out', 'vaosdi')
+# What is linear grows for twice the text by a factor of at most this.
+GROWTH = 2.2
+# Below this many seconds a time says nothing of the text.
+FLOOR = 0.02
 
 
 def is_built():

@@ -8,7 +8,7 @@ use Rattle.std.proofs.lemmas.Str.{IsUtf8-from_is_utf8, is_utf8-from_IsUtf8}
 use Rattle.va_base.specs.declared.file.FileText.{FileText}
 use Rattle.va_base.specs.declared.token.Token.{Token}
 use Rattle.va_preproc.specs.Lexemes.{Bytes, Lexeme, is_spelled, is_line_end, name_of}
-use Rattle.va_preproc.specs.Definitions.{file_name_as, line, new_name_as, comma, separator, formals_from, formals_form, follows_directly, list_or_body, after_name}
+use Rattle.va_preproc.specs.Definitions.{file_name_as, line, new_name_as, comma, closing, separator, formals_from, formals_form, follows_directly, list_or_body, after_name}
 use Rattle.va_preproc.specs.Values.{lexeme_in, lexemes_in}
 use Rattle.va_preproc.proofs.Lists.{more, map_push}
 use Rattle.va_preproc.proofs.Loops.{lexemes_more}
@@ -70,6 +70,20 @@ formals_turn files ts i d seen name h e f =
 
     sums : i + (2 + (formals_form (seen ++ name ∷ []) (lexemes_in files (drop (i + 2) ts))).taken) ≡ i + 2 + (formals_form (seen ++ name ∷ []) (lexemes_in files (drop (i + 2) ts))).taken
     sums = omega arith
+
+-- a last formal, and the list's end
+pub formals_closed : (files : List FileText) (ts : List Token) (i : ℕ) (d : Token) (seen : List Bytes) (name : Bytes) → 1 < length ts - i
+    → Some name ≡ new_name_as seen (name_of (lexeme_in files (get_or ts i d)))
+    → closing ≡ separator (lexeme_in files (get_or ts (i + 1) d))
+    → more i (formals_form seen (lexemes_in files (drop i ts))) ≡ record { taken = i + 2; meaning = Some (seen ++ name ∷ []) }
+formals_closed files ts i d seen name h e f =
+    ap (λ l. more i (formals_form seen l)) (lexemes_more files ts i d (omega arith)
+    ∙ ap (λ l. lexeme_in files (get_or ts i d) ∷ l) (lexemes_more files ts (i + 1) d (omega arith) ∙ ap (λ n. lexeme_in files (get_or ts (i + 1) d) ∷ lexemes_in files (drop n ts)) two))
+    ∙ ap (λ o. more i (formals_from o (separator (lexeme_in files (get_or ts (i + 1) d))) seen (λ names. formals_form names (lexemes_in files (drop (i + 2) ts))))) (sym e)
+    ∙ ap (λ s. more i (formals_from (Some name) s seen (λ names. formals_form names (lexemes_in files (drop (i + 2) ts))))) (sym f)
+  where
+    two : i + 1 + 1 ≡ i + 2
+    two = omega arith
 
 -- at the end of the tokens
 pub formals_end : (files : List FileText) (ts : List Token) (i : ℕ) (seen : List Bytes) → i ≤ length ts → length ts - i ≤ 1

@@ -10,6 +10,7 @@ use Rattle.va_base.specs.declared.fault.Fault.{Fault}
 use Rattle.va_base.specs.declared.fault.FaultCode.{FaultCode}
 use Rattle.va_base.specs.Expansion.{token_bytes}
 use Rattle.indexmap.specs.IndexMap.{IndexMap, get_by}
+use Rattle.indexmap.specs.IndexSet.{IndexSet}
 use Rattle.va_preproc.specs.declared.directive.Directive.TheVariants.{Include}
 use Rattle.va_preproc.specs.declared.known.Macro.{Macro as OwnedMacro}
 use Rattle.va_preproc.specs.declared.known.Known.{Known}
@@ -41,14 +42,14 @@ lexemes_in files = map (lexeme_in files)
 
 abbrev pub macro_in : List FileText → OwnedMacro → Macro
 macro_in files m = record {
-  formals = option_map (λ formals. map (λ formal. formal.items) formals.items) m.formals;
+  formals = option_map (λ formals. map (λ formal. formal.items) formals.keys) m.formals;
   body = lexemes_in files m.body.items;
 }
 
 -- the same of its parts
-abbrev pub macro_seen : List FileText → Option (Vec (Vec ℕ)) → List Token → Macro
+abbrev pub macro_seen : {S : Type 0} → List FileText → Option (IndexSet (Vec ℕ) S) → List Token → Macro
 macro_seen files formals body = record {
-  formals = option_map (λ formals. map (λ formal. formal.items) formals.items) formals;
+  formals = option_map (λ formals. map (λ formal. formal.items) formals.keys) formals;
   body = lexemes_in files body;
 }
 
@@ -110,7 +111,7 @@ abbrev pub inside_of : List FileText → SeenInside → Inside
 inside_of files i = record {
   outermost = i.outermost;
   opened = map (λ name. name.now) i.opened.now;
-  formals = zip (map (λ formal. formal.items) i.formals.now) (map (λ argument. lexemes_in files argument.items) i.arguments.now);
+  formals = zip (map (λ formal. formal.items) i.formals.now.keys) (map (λ argument. lexemes_in files argument.items) i.arguments.now);
 }
 
 -- where the body of a macro stands
@@ -147,7 +148,7 @@ separator_seen separator.Neither = neither
 
 -- the formals of a definition
 abbrev pub formals_seen : Formals → Form (List Bytes)
-formals_seen formals = record { taken = formals.taken; meaning = option_map (λ names. map (λ name. name.items) names.items) formals.names }
+formals_seen formals = record { taken = formals.taken; meaning = option_map (λ names. map (λ name. name.items) names.keys) formals.names }
 
 -- a definition
 abbrev pub definition_seen : List FileText → SeenDefinition → Form Definition

@@ -5,6 +5,7 @@ ghost use Rattle.va_preproc.specs.Lexemes.{name_of as name_of_lem, is_among as i
 ghost use Rattle.va_preproc.specs.Definitions.{line, macro_name as macro_name_lem, file_name as file_name_lem, next_token, new_name_as, separator as separator_lem, formals_form, follows_directly as follows_directly_lem, after_formals, body_form, after_name as after_name_lem, definition_form};
 ghost use Rattle.va_preproc.specs.Values.{lexeme_in, lexemes_in, formals_seen, definition_seen, separator_seen};
 
+use crate::known::FormalNames;
 use crate::role::{content_of, directive_named, is_line_end, is_spelled, name_of};
 use std::alloc::Global;
 use va_base::{FileText, NoMemory, Token};
@@ -13,7 +14,7 @@ use va_base::{FileText, NoMemory, Token};
 #[derive(Debug, Drop)]
 pub struct Formals {
     pub taken: usize,
-    pub names: Option<Vec<Vec<u8>>>,
+    pub names: Option<FormalNames>,
 }
 
 /// A definition after its directive: how many tokens are read until it is known, and its name, if it is of the form of one,
@@ -22,7 +23,7 @@ pub struct Formals {
 pub struct Definition<'a> {
     pub taken: usize,
     pub name: Option<&'a [u8]>,
-    pub formals: Option<Vec<Vec<u8>>>,
+    pub formals: Option<FormalNames>,
     pub body: &'a [Token],
 }
 
@@ -94,21 +95,16 @@ pub fn first_file_name<'a>(files: &'a [FileText], tokens: &[Token]) -> Option<&'
 }
 
 /// A name is among some names.
-fn has_name(names: &[Vec<u8>], name: &[u8]) -> bool
-    ensures { result ≡ is_among_lem (map (λ other. other.items) names.now) name.now }
+fn has_name(names: &FormalNames, name: &[u8]) -> bool
+    ensures { result ≡ is_among_lem (map (λ other. other.items) names.now.keys) name.now }
 {
-    for other in names {
-        if name == other.as_slice() {
-            return true;
-        }
-    }
-    false
+    names.contains(name)
 }
 
 /// The name that a token is, if it is one and none of these.
-fn new_name<'a>(files: &'a [FileText], token: &Token, seen: &[Vec<u8>]) -> Option<&'a [u8]>
+fn new_name<'a>(files: &'a [FileText], token: &Token, seen: &FormalNames) -> Option<&'a [u8]>
     ensures { option_map (λ name. name.now) result
-        ≡ new_name_as (map (λ other. other.items) seen.now) (name_of_lem (lexeme_in files.now token.now)) }
+        ≡ new_name_as (map (λ other. other.items) seen.now.keys) (name_of_lem (lexeme_in files.now token.now)) }
 {
     match name_of(files, token) {
         Some(name) => {
@@ -140,16 +136,16 @@ fn formals_in(alloc: Global, files: &[FileText], tokens: &[Token]) -> Result<For
     ensures formals { IfOk result (λ formals. formals_seen formals ≡ formals_form [] (lexemes_in files.now tokens.now)) }
     ensures within { IfOk result (λ formals. formals.taken ≤ length tokens.now) }
 {
-    let mut seen = Vec::new(alloc);
+    let mut seen = FormalNames::new(alloc);
     let mut at = 0;
     'formals: while tokens.len() - at > 1 {
-        let Some(name) = new_name(files, &tokens[at], seen.as_slice()) else {
+        let Some(name) = new_name(files, &tokens[at], &seen) else {
             return Ok(Formals {
                 taken: at + 1,
                 names: None,
             });
         };
-        seen.push(name.to_vec(alloc)?)?;
+        seen.insert(name.to_vec(alloc)?)?;
         match separator_of(files, &tokens[at + 1]) {
             Separator::Comma => at += 2,
             Separator::Closing => {
@@ -213,12 +209,12 @@ fn with_formals<'a>(
 fn with_body<'a>(
     taken: usize,
     name: &'a [u8],
-    formals: Option<Vec<Vec<u8>>>,
+    formals: Option<FormalNames>,
     rest: &'a [Token],
 ) -> Definition<'a>
     requires { taken + length rest.now < 2 ^ 64 }
     ensures { (files : List FileText_lem) → definition_seen files result
-        ≡ body_form name.now (option_map (λ formals. map (λ formal. formal.items) formals.items) formals) taken (lexemes_in files rest.now) }
+        ≡ body_form name.now (option_map (λ formals. map (λ formal. formal.items) formals.keys) formals) taken (lexemes_in files rest.now) }
 {
     let len = line_len(rest);
     Definition {

@@ -1,12 +1,15 @@
 //! What an expansion knows: its macros and the files that it read.
-use indexmap::IndexMap;
+use indexmap::{IndexMap, IndexSet};
 use std::alloc::Global;
 use va_base::{FileText, Token};
+
+/// The formals of a macro, in order.
+pub type FormalNames = IndexSet<Vec<u8>>;
 
 /// A macro: its formals, where it was defined with a list of them, and its body.
 #[derive(Debug, Drop)]
 pub struct Macro {
-    pub formals: Option<Vec<Vec<u8>>>,
+    pub formals: Option<FormalNames>,
     pub body: Vec<Token>,
 }
 

@@ -4,7 +4,7 @@ ghost use Rattle.va_base.specs.declared.file.FileText.{FileText as FileText_lem}
 ghost use Rattle.va_preproc.specs.Expansion.{with_macro};
 ghost use Rattle.va_preproc.specs.Values.{macro_in, macro_seen, macros_in};
 
-use crate::known::{Macro, MacroTable};
+use crate::known::{FormalNames, Macro, MacroTable};
 use std::alloc::Global;
 use va_base::{NoMemory, Token};
 
@@ -22,7 +22,7 @@ pub fn define(
     alloc: Global,
     macros: &mut MacroTable,
     name: &[u8],
-    formals: Option<Vec<Vec<u8>>>,
+    formals: Option<FormalNames>,
     body: &[Token],
 ) -> Result<(), NoMemory>
     ensures { OnOk result ((files : List FileText_lem) →

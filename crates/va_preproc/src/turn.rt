@@ -14,7 +14,7 @@ use crate::answer::{Answer, given};
 use crate::condition::{Branches, at_else, at_elsif, at_endif, at_if, is_skipped, read_next};
 use crate::definition::{Definition, definition_in, first_macro_name, line_len};
 use crate::directive::Directive;
-use crate::known::Known;
+use crate::known::{FormalNames, Known};
 use crate::progress::Progress;
 use crate::reading::{fault_at, give, read_own};
 use crate::role::{Role, role_of};
@@ -159,10 +159,11 @@ fn at_outermost(
         (lexemes_in known.now.files.items rest.now) b (state_of known.now progress.old)
         ≡ step_of (onward_same known.now progress.new b) (names_of known.now) answer) }
 {
+    let none = FormalNames::new(known.alloc);
     let inside = Inside {
         outermost: token.place,
         opened: &[],
-        formals: &[],
+        formals: &none,
         arguments: &[],
         depth: uses,
     };

@@ -9,7 +9,7 @@ ghost use Rattle.va_preproc.specs.Values.{step_of, state_of, names_of, lexeme_in
 
 use crate::answer::{Answer, given};
 use crate::argument::{ArgumentList, argument_list};
-use crate::known::{Known, Macro};
+use crate::known::{FormalNames, Known, Macro};
 use crate::progress::Progress;
 use crate::reading::{fault_at, give, give_all, read_at, read_one};
 use crate::role::{Role, role_of};
@@ -24,7 +24,7 @@ pub struct Inside<'a> {
     /// The macros whose bodies are open, the innermost first.
     pub opened: &'a [&'a [u8]],
     /// The formals of the body.
-    pub formals: &'a [Vec<u8>],
+    pub formals: &'a FormalNames,
     /// What they give: their expanded arguments, in order.
     pub arguments: &'a [Vec<Token>],
     /// How many uses may be open inside each other from here on.
@@ -45,22 +45,16 @@ fn is_among(names: &[&[u8]], name: &[u8]) -> bool
 
 /// The argument of the formal of a name, if it is a formal.
 fn argument_at<'a>(
-    formals: &[Vec<u8>],
+    formals: &FormalNames,
     arguments: &'a [Vec<Token>],
     name: &[u8],
 ) -> Option<&'a [Token]>
     ensures { option_map (λ argument. argument.now) result
-        ≡ found (zip (map (λ formal. formal.items) formals.now) (map (λ argument. argument.items) arguments.now)) name.now }
+        ≡ found (zip (map (λ formal. formal.items) formals.now.keys) (map (λ argument. argument.items) arguments.now)) name.now }
 {
-    for (index, formal) in formals.iter().enumerate() {
-        if formal.as_slice() == name {
-            return match arguments.get(index) {
-                Some(argument) => Some(argument.as_slice()),
-                None => None,
-            };
-        }
-    }
-    None
+    let index = formals.get_index_of(name)?;
+    let argument = arguments.get(index)?;
+    Some(argument.as_slice())
 }
 
 /// What a name gives, if it is a formal: its expanded argument.
@@ -73,11 +67,11 @@ fn argument_of<'a>(inside: &Inside<'a>, name: &[u8]) -> Option<&'a [Token]>
 
 /// The arguments of a list, where they are as many as the formals.
 fn matching<'a>(
-    formals: &[Vec<u8>],
+    formals: &FormalNames,
     arguments: Option<Vec<&'a [Token]>>,
 ) -> Option<Vec<&'a [Token]>>
     ensures { (files : List FileText_lem) → arguments_seen files result
-        ≡ matching_lem (map (λ formal. formal.items) formals.now) (arguments_seen files arguments.entry) }
+        ≡ matching_lem (map (λ formal. formal.items) formals.now.keys) (arguments_seen files arguments.entry) }
 {
     let arguments = arguments?;
     if arguments.len() != formals.len() {
@@ -135,18 +129,13 @@ fn open_use(
     let body = definition.body.as_slice();
     match &definition.formals {
         None => {
-            given!(expand_body(known, progress, inside, name, body, &[], &[])?);
+            let none = FormalNames::new(known.alloc);
+            given!(expand_body(known, progress, inside, name, body, &none, &[])?);
             Ok(Ok(0))
         }
         Some(formals) => {
             let taken = given!(expand_with_list(
-                known,
-                progress,
-                inside,
-                name,
-                body,
-                formals.as_slice(),
-                rest
+                known, progress, inside, name, body, formals, rest
             )?);
             Ok(Ok(taken))
         }
@@ -161,12 +150,12 @@ fn expand_with_list(
     inside: &Inside,
     name: &[u8],
     body: &[Token],
-    formals: &[Vec<u8>],
+    formals: &FormalNames,
     rest: &[Token],
 ) -> Answer<usize>
     ensures { IfOk result (λ answer.
         by_formals (use_within inside.now.depth) (inside_of known.now.files.items inside.now) name.now
-        (lexemes_in known.now.files.items body.now) (Some (map (λ formal. formal.items) formals.now))
+        (lexemes_in known.now.files.items body.now) (Some (map (λ formal. formal.items) formals.now.keys))
         (lexemes_in known.now.files.items rest.now) (state_of known.now progress.old)
         ≡ step_of (λ taken. (taken, state_of known.now progress.new)) (names_of known.now) answer) }
 {
@@ -242,12 +231,12 @@ fn expand_body(
     inside: &Inside,
     name: &[u8],
     body: &[Token],
-    formals: &[Vec<u8>],
+    formals: &FormalNames,
     arguments: &[Vec<Token>],
 ) -> Answer<()>
     ensures { IfOk result (λ answer.
         expand_list_lem (use_within inside.now.depth)
-        (body_inside known.now.files.items inside.now name.now formals.now arguments.now) 0
+        (body_inside known.now.files.items inside.now name.now formals.now.keys arguments.now) 0
         (lexemes_in known.now.files.items body.now) (state_of known.now progress.old)
         ≡ step_of (λ u. state_of known.now progress.new) (names_of known.now) answer) }
 {

@@ -9,7 +9,7 @@ use Rattle.va_preproc.proofs.definition.formals_in.Given as goal
 abbrev pub invariant-formals : goal.invariant-formals
 invariant-formals l = record {
   all : formals_form [] (lexemes_in l.fn.files l.fn.tokens)
-      ≡ more l.at (formals_form (map (λ name. name.items) l.seen.items) (lexemes_in l.fn.files (drop l.at l.fn.tokens)));
+      ≡ more l.at (formals_form (map (λ name. name.items) l.seen.keys) (lexemes_in l.fn.files (drop l.at l.fn.tokens)));
   within : l.at ≤ length l.fn.tokens;
 }
 

@@ -13,8 +13,8 @@ returns c =
     let after = c.args.after.now in
     let lex = lexemes_in files in
     let f = c.in_ok-taken.field-0 in
-    let names = map (λ (formal : Vec ℕ). formal.items) c.in-Some.names.items in
+    let names = map (λ (formal : Vec ℕ). formal.items) c.in-Some.names.keys in
     c.with_body.ensures files
     ∙ ap (λ l. body_form c.args.name.now (Some names) (2 + f.taken) l) (ap lex (rest_all f.taken after) ∙ sym (drop_map (lexeme_in files) f.taken after))
     ∙ sym (ap (λ form. after_formals c.args.name.now (lex after) form.taken form.meaning) (sym c.in_ok-taken.ensures.formals)
-    ∙ ap (λ o. after_formals c.args.name.now (lex after) f.taken (option_map (λ (formals : Vec (Vec ℕ)). map (λ (formal : Vec ℕ). formal.items) formals.items) o)) c.in-Some.is)
+    ∙ ap (λ o. after_formals c.args.name.now (lex after) f.taken (option_map (λ formals. map (λ (formal : Vec ℕ). formal.items) formals.keys) o)) c.in-Some.is)

@@ -69,7 +69,7 @@ expand_with_list-returns-in-Err-3 t c =
     let at_use = use_within c.args.inside.now.depth in
     let i = inside_of files c.args.inside.now in
     let see = λ (argument : Bor (List Token)). lexemes_in files argument.now in
-    let formals = map (λ (formal : Vec ℕ). formal.items) c.args.formals.now in
+    let formals = map (λ (formal : Vec ℕ). formal.items) c.args.formals.now.keys in
     with_list at_use i c.args.name.now (lexemes_in files c.args.body.now) formals (lexemes_in files c.args.rest.now)
     (state_of c.args.known.now c.args.progress.now) (state_of c.args.known.now c.read_at.new.progress) (state_of c.args.known.now c.expand_arguments.new.progress)
     (list_seen files c.in_ok-taken.field-0) (map see c.in-Some.arguments.items) _
@@ -79,7 +79,7 @@ expand_with_list-returns-in-Err-3 t c =
     (ap (λ l. expand_arguments at_use i (map see l) (state_of c.args.known.now c.read_at.new.progress)) (sym c.as_slice-2.ensures.value)
     ∙ c.in_ok-value.ensures ∙ ap (step_of _ _) c.in-Ok-2.is)
     ∙ ap (λ step. step >>= λ after. Ok (c.in_ok-taken.field-0.taken, after))
-    (ap (λ l. expand_list at_use (body_inside files c.args.inside.now c.args.name.now c.args.formals.now l) 0 (lexemes_in files c.args.body.now) (state_of c.args.known.now c.expand_arguments.new.progress))
+    (ap (λ l. expand_list at_use (body_inside files c.args.inside.now c.args.name.now c.args.formals.now.keys l) 0 (lexemes_in files c.args.body.now) (state_of c.args.known.now c.expand_arguments.new.progress))
     (sym c.as_slice-3.ensures.value) ∙ c.in_ok-value-2.ensures ∙ ap (step_of _ _) c.in-Err-3.is)
 
 pub expand_with_list-returns : goal.expand_with_list-returns
@@ -88,7 +88,7 @@ expand_with_list-returns t c =
     let at_use = use_within c.args.inside.now.depth in
     let i = inside_of files c.args.inside.now in
     let see = λ (argument : Bor (List Token)). lexemes_in files argument.now in
-    let formals = map (λ (formal : Vec ℕ). formal.items) c.args.formals.now in
+    let formals = map (λ (formal : Vec ℕ). formal.items) c.args.formals.now.keys in
     with_list at_use i c.args.name.now (lexemes_in files c.args.body.now) formals (lexemes_in files c.args.rest.now)
     (state_of c.args.known.now c.args.progress.now) (state_of c.args.known.now c.read_at.new.progress) (state_of c.args.known.now c.expand_arguments.new.progress)
     (list_seen files c.in_ok-taken.field-0) (map see c.in-Some.arguments.items) _
@@ -98,7 +98,7 @@ expand_with_list-returns t c =
     (ap (λ l. expand_arguments at_use i (map see l) (state_of c.args.known.now c.read_at.new.progress)) (sym c.as_slice-2.ensures.value)
     ∙ c.in_ok-value.ensures ∙ ap (step_of _ _) c.in-Ok-2.is)
     ∙ ap (λ step. step >>= λ after. Ok (c.in_ok-taken.field-0.taken, after))
-    (ap (λ l. expand_list at_use (body_inside files c.args.inside.now c.args.name.now c.args.formals.now l) 0 (lexemes_in files c.args.body.now) (state_of c.args.known.now c.expand_arguments.new.progress))
+    (ap (λ l. expand_list at_use (body_inside files c.args.inside.now c.args.name.now c.args.formals.now.keys l) 0 (lexemes_in files c.args.body.now) (state_of c.args.known.now c.expand_arguments.new.progress))
     (sym c.as_slice-3.ensures.value) ∙ c.in_ok-value-2.ensures ∙ ap (step_of _ _) c.in-Ok-3.is)
 
 pub expand_token-returns-in-Err-2 : goal.expand_token-returns-in-Err-2
