@@ -1,3 +1,4 @@
 pub mod Capped
 pub mod Deepest
 pub mod NodeCount
+pub mod DeepNodes

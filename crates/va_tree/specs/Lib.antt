@@ -9,3 +9,4 @@ pub mod Size
 pub mod StatementLaws
 pub mod Statements
 pub mod Worked
+pub mod DepthLimit

@@ -9,6 +9,7 @@
 pub mod count;
 pub mod depth;
 pub mod expr;
+pub mod limit;
 pub mod module;
 pub mod name;
 pub mod source;
