@@ -6,3 +6,17 @@ pub mod Chosen
 pub mod VaFits
 pub mod Entries
 pub mod VaSymbols
+pub mod KindsEnd
+pub mod SizeAlgebra
+pub mod SizeExpressions
+pub mod SizeStatements
+pub mod SizeDerived
+pub mod SizeLaws
+pub mod SizeItems
+pub mod SizeAllRows
+pub mod SizeDeepRow
+pub mod SizeParts
+pub mod SizeLinks
+pub mod SizeScan
+pub mod SizeTrees
+pub mod SizeFaults

@@ -7,3 +7,16 @@ pub mod Rows
 pub mod Sets
 pub mod Evidence
 pub mod VaLaws
+pub mod Kinds
+pub mod TokensAt
+pub mod Width
+pub mod SourceExpressions
+pub mod SourceStatements
+pub mod SourceItems
+pub mod SourceOf
+pub mod Reading
+pub mod SizeDeep
+pub mod SizeRows
+pub mod SizeLinks
+pub mod SizeScan
+pub mod SizeFaults

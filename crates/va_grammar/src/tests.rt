@@ -94,7 +94,7 @@ fn kind_of(token: &str) -> Terminal {
 }
 
 /// The kinds of a text, but for the `^` that marks a fault in it.
-fn kinds_of(alloc: Global, text: &str) -> Result<Vec<u16>, AllocError> {
+pub(crate) fn kinds_of(alloc: Global, text: &str) -> Result<Vec<u16>, AllocError> {
     let mut kinds = Vec::new(alloc);
     for token in text.split_whitespace() {
         if token != "^" {
@@ -117,7 +117,7 @@ fn marked(text: &str) -> usize {
 }
 
 /// These kinds, with the end of the text behind them.
-fn ended(alloc: Global, kinds: &[u16]) -> Result<Vec<u16>, AllocError>
+pub(crate) fn ended(alloc: Global, kinds: &[u16]) -> Result<Vec<u16>, AllocError>
     ensures { IfOk result (λ all. all.items ≡ kinds.now ++ va_rules.end_kind ∷ []) }
 {
     let mut all = Vec::from_slice(alloc, kinds)?;
