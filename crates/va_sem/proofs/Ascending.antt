@@ -15,11 +15,11 @@ use Rattle.va_sem.specs.MeaningsLaws.{IsInTextOrder, UsesAreInTextOrder}
 
 module _ {X : Type 0} (n : X → ℕ) where
   -- no element is below a number
-  abbrev From : ℕ → List X → Type 0
+  abbrev pub From : ℕ → List X → Type 0
   From b [] = Unit {0}
   From b (x ∷ xs) = (b ≤ n x) × From b xs
 
-  abbrev Ascends : List X → Type 0
+  abbrev pub Ascends : List X → Type 0
   Ascends [] = Unit {0}
   Ascends (x ∷ xs) = From (n x) xs × Ascends xs
 
@@ -50,7 +50,7 @@ module _ {X : Type 0} (n : X → ℕ) where
   ascends_put x [] up = (tt, tt)
   ascends_put x (y ∷ rest) up = chosen x y rest (nat_le (n x) (n y)) refl up.0 up.1 (ascends_put x rest up.1)
 
-  ascends : (xs : List X) → Ascends (in_text_order n xs)
+  pub ascends : (xs : List X) → Ascends (in_text_order n xs)
   ascends [] = tt
   ascends (x ∷ xs) = ascends_put x (in_text_order n xs) (ascends xs)
 

@@ -10,7 +10,7 @@ use Rattle.va_sem.specs.Faults.{is_before, earlier_of, least_of}
 use Rattle.va_sem.specs.FaultsLaws.{LeastIsAnswered}
 
 -- one fault of a phase before another, as a fact
-abbrev Before : FaultAt → FaultAt → Type 0
+abbrev pub Before : FaultAt → FaultAt → Type 0
 Before a b = (a.0 < b.0) ⊎ ((a.0 ≡ b.0) × (number_of_code a.1 < number_of_code b.1))
 
 either_true : (p q : Bool) → p || q ≡ true → (p ≡ true) ⊎ (q ≡ true)
@@ -127,13 +127,13 @@ there_by : (a : FaultAt) (rest : List FaultAt) (least : Option FaultAt) → ((m 
 there_by a rest None there = (0, omega arith, refl)
 there_by a rest (Some b) there = chosen_there a b rest (is_before b a) (there b refl)
 
-is_there : (faults : List FaultAt) (m : FaultAt) → least_of faults ≡ Some m → Contains faults m
+pub is_there : (faults : List FaultAt) (m : FaultAt) → least_of faults ≡ Some m → Contains faults m
 is_there [] m h = cc
 is_there (a ∷ rest) m h =
     subst (Contains (a ∷ rest)) (of_some (earlier_of a (least_of rest)) m h) (there_by a rest (least_of rest) (λ n is. is_there rest n is))
 
 -- a contained fault is not before the least
-none_contained : (faults : List FaultAt) (m b : FaultAt) → least_of faults ≡ Some m → Contains faults b → Before b m → ⊥
+pub none_contained : (faults : List FaultAt) (m b : FaultAt) → least_of faults ≡ Some m → Contains faults b → Before b m → ⊥
 none_contained faults m b h (k, within, is) before =
     none_before faults m h k b within (subst (λ (x : FaultAt). Before x m) (sym is) before)
 

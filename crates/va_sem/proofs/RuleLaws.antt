@@ -10,14 +10,19 @@ use Rattle.va_sem.specs.declared.names.Meaning.{Meaning}
 use Rattle.va_sem.specs.declared.names.Meaning.TheVariants as means
 use Rattle.va_sem.specs.declared.names.ModuleNames.{ModuleNames}
 use Rattle.va_sem.specs.LookedAt.{looked_at}
+use Rattle.va_sem.specs.Meanings.{names_of_module}
 use Rattle.va_sem.specs.rules.Uses.{meaning_of, is_access, is_ddt, is_variable_in, is_integer}
 use Rattle.va_sem.specs.Typing.{Typing, meaning_at}
 use Rattle.alg_laws.specs.declared.number.Ty.TheVariants.{Real}
 use Rattle.va_sem.specs.rules.Values.{Value, values_of}
 use Rattle.va_sem.specs.rules.Biased.{Analysis, is_biased, is_timed, is_assigned_to, biased_by, timed_by, analysis_of}
-use Rattle.va_sem.specs.rules.Dependence.{carriers, carriers_under_ddt, carries, is_resistive, is_reactive, resistive_by, reactive_by, resistive_variables}
+use Rattle.va_sem.specs.rules.Dependence.{carriers, carriers_under_ddt, carries, is_resistive, is_reactive, resistive_by, reactive_by, resistive_variables, reactive_variables}
+use Rattle.va_tree.specs.declared.module.Module.{Module}
+use Rattle.va_tree.specs.declared.source.Source.{Source}
 use Rattle.va_tree.specs.Statements.{Statement}
-use Rattle.va_sem.specs.rules.RuleLaws.{AreNumbered, IsLeast, RulesGiveLeastSets}
+use Rattle.va_sem.specs.MeaningsLaws.{AreNumbered}
+use Rattle.va_sem.specs.rules.RuleLaws.{IsLeast, RulesGiveLeastSets}
+use Rattle.va_sem.proofs.NumberedNames.{names_are_numbered}
 
 -- from one answer follows the other
 abbrev Gives : Bool → Bool → Type 0
@@ -154,14 +159,32 @@ module _ (names : ModuleNames) (numbered : AreNumbered names) where
     within_closed = least_within (length names.vars) follows monotone;
   }
 
+  pub biased_least : (blocks : List Statement) → let a = analysis_of names blocks in IsLeast names (biased_by a.meaning a.values) a.biased
+  biased_least blocks = is_least (biased_by (meaning_at names.uses) (values_of blocks)) (biased_monotone (values_of blocks))
+
+  timed_least : (blocks : List Statement) → let a = analysis_of names blocks in IsLeast names (timed_by a.meaning a.values) a.timed
+  timed_least blocks = is_least (timed_by (meaning_at names.uses) (values_of blocks)) (timed_monotone (values_of blocks))
+
+  resistive_least : (types : Typing) (blocks : List Statement) (u : Unknown)
+      → let a = analysis_of names blocks in IsLeast names (resistive_by types names a u) (resistive_variables types names a u)
+  resistive_least types blocks u =
+      let a : Analysis = analysis_of names blocks in
+      is_least (resistive_by types names a u) (resistive_monotone types blocks u)
+
+  reactive_least : (types : Typing) (blocks : List Statement) (u : Unknown)
+      → let a = analysis_of names blocks in
+      IsLeast names (reactive_by types names a u (resistive_variables types names a u)) (reactive_variables types names a u)
+  reactive_least types blocks u =
+      let a : Analysis = analysis_of names blocks in
+      is_least (reactive_by types names a u (resistive_variables types names a u)) (reactive_monotone types blocks u (resistive_variables types names a u))
+
+abbrev numbers_of : (s : Source) (number : ℕ) (m : Module) → AreNumbered (names_of_module s number m)
+numbers_of s number m = names_are_numbered.variables s number m
+
 pub rules_give_least_sets : RulesGiveLeastSets
 rules_give_least_sets = record {
-  biased = λ names blocks numbered. is_least names numbered (biased_by (meaning_at names.uses) (values_of blocks)) (biased_monotone names numbered (values_of blocks));
-  timed = λ names blocks numbered. is_least names numbered (timed_by (meaning_at names.uses) (values_of blocks)) (timed_monotone names numbered (values_of blocks));
-  resistive = λ types names blocks u numbered.
-      let a : Analysis = analysis_of names blocks in
-      is_least names numbered (resistive_by types names a u) (resistive_monotone names numbered types blocks u);
-  reactive = λ types names blocks u numbered.
-      let a : Analysis = analysis_of names blocks in
-      is_least names numbered (reactive_by types names a u (resistive_variables types names a u)) (reactive_monotone names numbered types blocks u (resistive_variables types names a u));
+  biased = λ s number m blocks. biased_least (names_of_module s number m) (numbers_of s number m) blocks;
+  timed = λ s number m blocks. timed_least (names_of_module s number m) (numbers_of s number m) blocks;
+  resistive = λ types s number m blocks u. resistive_least (names_of_module s number m) (numbers_of s number m) types blocks u;
+  reactive = λ types s number m blocks u. reactive_least (names_of_module s number m) (numbers_of s number m) types blocks u;
 }

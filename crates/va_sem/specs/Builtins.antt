@@ -157,7 +157,7 @@ system_answer_type SimParam arguments = default_type arguments
 system_answer_type ParamGiven arguments = Integer
 
 -- The arguments of a function that are looked at, by their places from 0 on, strings counted. Of `$limit` this is the first
--- alone (Analog operators); a task has none.
+-- alone, since this profile leaves to the simulator how it limits; a task has none.
 abbrev pub argument_looked_at : SystemFunction → ℕ → Bool
 argument_looked_at Temperature place = true
 argument_looked_at ThermalVoltage place = true

@@ -48,6 +48,17 @@ pub data Answered (e : Expanded) (s : Source) (f : Fault) : Type 0 where
   of_types : names_faults s ≡ [] → IsLeast e phase.Types (types_faults s (names_of s)) f → Answered e s f
   of_rules : names_faults s ≡ [] → types_faults s (names_of s) ≡ [] → IsLeast e phase.Rules (rules_faults s (names_of s)) f → Answered e s f
 
+-- A fault stands in a text in one of the three phases.
+pub data StandsIn (e : Expanded) (s : Source) (f : Fault) : Type 0 where
+  among_names : Stands e phase.Names (names_faults s) f → StandsIn e s f
+  among_types : Stands e phase.Types (types_faults s (names_of s)) f → StandsIn e s f
+  among_rules : Stands e phase.Rules (rules_faults s (names_of s)) f → StandsIn e s f
+
+-- The least of all that stand: by phase, then by token, then by the number of the code.
+pub record IsLeastOfAll (e : Expanded) (s : Source) (f : Fault) : Type 0 where
+  pub stands : StandsIn e s f
+  pub least : (g : Fault) → StandsIn e s g → ComesBefore g f → ⊥
+
 -- no rule is broken
 pub record KeepsRules (s : Source) : Type 0 where
   pub names : names_faults s ≡ []

@@ -1,5 +1,6 @@
 -- The expressions that are looked at, in pre-order. Names and system names in the others are resolved, and that is all: they are
--- the arguments of tasks, and those of `$limit` after the first.
+-- the arguments of tasks (Simulation control and display tasks), and those of `$limit` after the first. This is the profile's own:
+-- in the manual a task's arguments have types and values too.
 use Rattle.std.specs.Prelude.{ℕ, ◌+◌, Bool, true, false, List, [], ◌∷◌, ◌++◌, Option, Some, None, flat_map, if◌then◌else◌}
 use Rattle.va_tree.specs.declared.expr.Callee.{Callee}
 use Rattle.va_tree.specs.declared.expr.Callee.TheVariants.{Function, System}

@@ -1,4 +1,5 @@
--- The faults of names: which code stands at which token.
+-- The faults of names: which code stands at which token (Natures, Disciplines, Branches, Signal access functions, User-defined
+-- analog functions, Aliasparam). What the manual has and this profile leaves out is OutOfProfile.
 use Rattle.std.specs.Prelude.{ℕ, Bool, true, false, not, ◌==◌, ◌&&◌, ◌||◌, List, [], ◌∷◌, ◌++◌, map, filter, drop, length, flat_map, Option, Some, None, option_map, option_and_then, option_to_list, filter_map, if◌then◌else◌, codes}
 use Rattle.std.specs.Option.{is_some}
 use Rattle.std.specs.List.{list_any}

@@ -3,7 +3,7 @@ ghost use Rattle.std.specs.Prelude.{◌≡◌, ◌==◌, ◌&&◌, not, ◌++◌
 ghost use Rattle.std.specs.List.{list_any, list_all};
 ghost use Rattle.std.specs.Ordering.{nat_cmp};
 ghost use Rattle.std.specs.BTreeMap as tree;
-ghost use Rattle.va_sem.specs.TextOrder.{in_text_order, put_in};
+ghost use Rattle.va_sem.specs.TextOrder.{in_text_order};
 ghost use Rattle.va_sem.specs.rules.BranchKinds.{always_contributes};
 ghost use Rattle.va_sem.specs.rules.Findings.{given_in, flow_to, potential_to, collapses_if_to as may_collapse_branch, reads_flow_of, kind_by, blocks_of};
 
@@ -136,27 +136,11 @@ pub fn kind_of(
     None
 }
 
-/// Puts a contribution before those that stand later in the text.
-fn put_in_order(list: &mut Vec<Given>, given: Given) -> Result<(), AllocError>
-    ensures { IfOk result (λ done. list.new.items ≡ put_in (λ g. g.at) given list.old.items) }
-{
-    let mut place = 0;
-    while place < list.len() && list[place].at < given.at {
-        place += 1;
-    }
-    list.insert(place, given)?;
-    Ok(())
-}
-
 /// Contributions in the order of the text.
 pub fn in_order(alloc: Global, givens: &[Given]) -> Result<Vec<Given>, AllocError>
     ensures { IfOk result (λ list. list.items ≡ in_text_order (λ g. g.at) givens.now) }
 {
-    let mut list = Vec::new(alloc);
-    let mut place = givens.len();
-    while place > 0 {
-        place -= 1;
-        put_in_order(&mut list, givens[place])?;
-    }
+    let mut list = Vec::from_slice(alloc, givens)?;
+    list.sort_by_key(|given| given.at)?;
     Ok(list)
 }

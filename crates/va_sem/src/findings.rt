@@ -12,7 +12,7 @@ ghost use Rattle.va_sem.specs.Builtins.{argument_looked_at};
 ghost use Rattle.va_sem.specs.LookedAt.{looked_at, looked_at_in_arguments, call_looks, looks};
 ghost use Rattle.va_sem.specs.rules.BranchKinds.{is_zero, signed_zero};
 ghost use Rattle.va_sem.specs.rules.Values.{assigned, contributed, value_for, values_in, values_in_statements, values_in_items, values_in_defaults, is_evaluated as event_counts};
-ghost use Rattle.va_sem.specs.rules.Findings.{IsRead, Visits, values_in_else, variable_found, contribution_found, meanings_in, looked_at_first, looked_at_if, flows_read, in_expr, in_item, in_initialiser, in_variable, in_declaration, reads_biased as name_reads_biased};
+ghost use Rattle.va_sem.specs.rules.Findings.{IsRead, Enters, Visits, values_in_else, variable_found, contribution_found, meanings_in, looked_at_first, looked_at_if, flows_read, in_expr, in_item, in_initialiser, in_variable, in_declaration, reads_biased as name_reads_biased};
 
 use crate::builtin::{SystemFunction, SystemName, system_name};
 use crate::names::Meaning;
@@ -21,7 +21,8 @@ use std::alloc::AllocError;
 use std::collections::BTreeMap;
 use va_base::Name;
 use va_tree::{
-    Arg, Callee, CaseDefault, CaseItem, Declaration, EventKind, Expr, Stmt, UnaryOp, Variable,
+    Arg, Assignment, Callee, CaseDefault, CaseItem, Declaration, EventKind, Expr, Stmt, UnaryOp,
+    Variable,
 };
 
 /// A contribution to a branch (Contribution statements).
@@ -463,6 +464,88 @@ pub fn is_evaluated(event: EventKind) -> bool
     }
 }
 
+/// An assignment in the head of a `for` (Looping statements).
+fn assign_in_head(
+    assignment: &Assignment,
+    under: bool,
+    meanings: &BTreeMap<u32, Meaning>,
+    biased: &[bool],
+    findings: &mut Vec<Finding>,
+) -> Result<(), AllocError>
+    ensures { IfOk result (λ done. Visits (tree.get nat_cmp meanings.now) (listed biased.now) under (λ around. value_for around (assigned assignment.now.target.at) (expression_of assignment.now.value) ∷ []) findings.old.items findings.new.items) }
+{
+    assign(
+        assignment.target.at,
+        &assignment.value,
+        under,
+        meanings,
+        biased,
+        findings,
+    )
+}
+
+/// Reads what a statement evaluates itself, before the statements in it, and answers whether some condition over these is biased.
+fn enter(
+    s: &Stmt,
+    under: bool,
+    meanings: &BTreeMap<u32, Meaning>,
+    biased: &[bool],
+    findings: &mut Vec<Finding>,
+) -> Result<bool, AllocError>
+    ensures { IfOk result (λ inside. Enters (tree.get nat_cmp meanings.now) (listed biased.now) under (statement_of s.now) findings.old.items findings.new.items inside) }
+{
+    match s {
+        Stmt::Null { .. } => Ok(under),
+        Stmt::Block { declarations, .. } => {
+            let _any = read_declarations(declarations.as_list(), meanings, biased, findings)?;
+            Ok(under)
+        }
+        Stmt::If { test, .. } => {
+            let answer = read(test, meanings, biased, findings)?;
+            Ok(either(answer, under))
+        }
+        Stmt::Case {
+            selector,
+            items,
+            ..
+        } => {
+            let answer = read(selector, meanings, biased, findings)?;
+            let any = read_items(items.as_slice(), meanings, biased, findings)?;
+            Ok(either(either(answer, any), under))
+        }
+        Stmt::For {
+            first,
+            test,
+            step,
+            ..
+        } => {
+            let answer = read(test, meanings, biased, findings)?;
+            let inside = either(answer, under);
+            assign_in_head(first, inside, meanings, biased, findings)?;
+            assign_in_head(step, inside, meanings, biased, findings)?;
+            Ok(inside)
+        }
+        Stmt::While { test, .. } => {
+            let answer = read(test, meanings, biased, findings)?;
+            Ok(either(answer, under))
+        }
+        Stmt::Repeat { count, .. } => {
+            let answer = read(count, meanings, biased, findings)?;
+            Ok(either(answer, under))
+        }
+        Stmt::Event { .. } => Ok(under),
+        Stmt::Assign { at, value, .. } => {
+            assign(*at, value, under, meanings, biased, findings)?;
+            Ok(under)
+        }
+        Stmt::Contribute { at, value, .. } => {
+            contribute(*at, value, under, meanings, biased, findings)?;
+            Ok(under)
+        }
+        Stmt::Task { .. } => Ok(under),
+    }
+}
+
 /// Visits a statement, over which some condition is biased or none (Analog procedural block).
 #[cycle(visit)]
 pub fn visit(
@@ -474,94 +557,49 @@ pub fn visit(
 ) -> Result<(), AllocError>
     ensures { IfOk result (λ done. Visits (tree.get nat_cmp meanings.now) (listed biased.now) under (λ around. values_in around (statement_of s.now)) findings.old.items findings.new.items) }
 {
+    let inside = enter(s, under, meanings, biased, findings)?;
     match s {
         Stmt::Null { .. } => Ok(()),
-        Stmt::Block {
-            declarations,
-            body,
-            ..
-        } => {
-            let _any = read_declarations(declarations.as_list(), meanings, biased, findings)?;
-            let done = visit_all(body.as_slice(), under, meanings, biased, findings)?;
+        Stmt::Block { body, .. } => {
+            let done = visit_all(body.as_slice(), inside, meanings, biased, findings)?;
             Ok(done)
         }
-        Stmt::If { test, yes, no, .. } => {
-            let answer = read(test, meanings, biased, findings)?;
-            let inside = either(answer, under);
+        Stmt::If { yes, no, .. } => {
             visit(yes.get(), inside, meanings, biased, findings)?;
             let done = visit_else(no, inside, meanings, biased, findings)?;
             Ok(done)
         }
         Stmt::Case {
-            selector,
             items,
             defaults,
             ..
         } => {
-            let items = items.as_slice();
-            let answer = read(selector, meanings, biased, findings)?;
-            let any = read_items(items, meanings, biased, findings)?;
-            let inside = either(either(answer, any), under);
-            visit_items(items, inside, meanings, biased, findings)?;
+            visit_items(items.as_slice(), inside, meanings, biased, findings)?;
             let done = visit_defaults(defaults.as_slice(), inside, meanings, biased, findings)?;
             Ok(done)
         }
-        Stmt::For {
-            first,
-            test,
-            step,
-            body,
-            ..
-        } => {
-            let answer = read(test, meanings, biased, findings)?;
-            let inside = either(answer, under);
-            assign(
-                first.target.at,
-                &first.value,
-                inside,
-                meanings,
-                biased,
-                findings,
-            )?;
-            assign(
-                step.target.at,
-                &step.value,
-                inside,
-                meanings,
-                biased,
-                findings,
-            )?;
+        Stmt::For { body, .. } => {
             let done = visit(body.get(), inside, meanings, biased, findings)?;
             Ok(done)
         }
-        Stmt::While { test, body, .. } => {
-            let answer = read(test, meanings, biased, findings)?;
-            let inside = either(answer, under);
+        Stmt::While { body, .. } => {
             let done = visit(body.get(), inside, meanings, biased, findings)?;
             Ok(done)
         }
-        Stmt::Repeat { count, body, .. } => {
-            let answer = read(count, meanings, biased, findings)?;
-            let inside = either(answer, under);
+        Stmt::Repeat { body, .. } => {
             let done = visit(body.get(), inside, meanings, biased, findings)?;
             Ok(done)
         }
         Stmt::Event { event, body, .. } => {
             if is_evaluated(*event) {
-                let done = visit(body.get(), under, meanings, biased, findings)?;
+                let done = visit(body.get(), inside, meanings, biased, findings)?;
                 Ok(done)
             } else {
                 Ok(())
             }
         }
-        Stmt::Assign { at, value, .. } => {
-            let done = assign(*at, value, under, meanings, biased, findings)?;
-            Ok(done)
-        }
-        Stmt::Contribute { at, value, .. } => {
-            let done = contribute(*at, value, under, meanings, biased, findings)?;
-            Ok(done)
-        }
+        Stmt::Assign { .. } => Ok(()),
+        Stmt::Contribute { .. } => Ok(()),
         Stmt::Task { .. } => Ok(()),
     }
 }

@@ -1,4 +1,4 @@
--- The strings of attributes.
+-- The strings of attributes (Lexical conventions).
 use Rattle.std.specs.Prelude.{List, Option, None, filter, flat_map, option_and_then}
 use Rattle.std.specs.List.{last_or}
 use Rattle.std.specs.Str.{bytes_eq}

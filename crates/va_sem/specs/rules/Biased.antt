@@ -1,4 +1,6 @@
--- Variables that depend on the unknowns, and variables that hold time derivatives.
+-- Variables that depend on the unknowns, and variables that hold time derivatives (Time derivative operator, Conditional
+-- statements). The manual asks that conditions over a time derivative don't change during an analysis; this profile tells it by what
+-- is assigned, whatever the order and the values.
 use Rattle.std.specs.Prelude.{ℕ, ◌==◌, ◌&&◌, ◌||◌, Bool, false, List, ◌∷◌, length, Option}
 use Rattle.std.specs.List.{list_any}
 use Rattle.alg_laws.specs.Least.{least}

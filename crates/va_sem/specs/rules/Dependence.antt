@@ -1,5 +1,5 @@
--- Which parts of which rows depend on which unknowns: the entries of the Jacobian that are listed. This is the profile's own. It
--- knows no order of statements, no values, and none of what is reached.
+-- Which parts of which rows depend on which unknowns: the entries of the Jacobian that are listed (`jacobian_entries` of OSDI 0.3).
+-- What depends on what is this profile's own: it knows no order of statements, no values, and none of what is reached.
 use Rattle.std.specs.Prelude.{ℕ, ◌+◌, ◌==◌, ◌&&◌, ◌||◌, Bool, true, false, not, List, [], ◌∷◌, ◌++◌, Option, Some, None, if◌then◌else◌, flat_map, length, get_or, slice_get}
 use Rattle.std.specs.List.{list_any, enumerate_from}
 use Rattle.alg_laws.specs.Least.{least}

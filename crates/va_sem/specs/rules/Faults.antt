@@ -1,4 +1,5 @@
--- The faults of the rules: which code stands at which token.
+-- The faults of the rules: which code stands at which token (Time derivative operator, Contribution statements, Switch branches).
+-- That switch branches other than collapsing ones are refused, and the flow of a branch without potential, is the profile's own.
 use Rattle.std.specs.Prelude.{ℕ, ◌==◌, Bool, true, false, not, List, [], ◌∷◌, ◌++◌, Option, Some, map, filter, flat_map, is_none}
 use Rattle.std.specs.List.{list_all}
 use Rattle.va_base.specs.declared.fault.FaultCode.TheVariants as code

@@ -24,12 +24,13 @@ use Rattle.va_tree.specs.declared.stmt.CaseDefault.{CaseDefault}
 use Rattle.va_tree.specs.declared.stmt.CaseItem.{CaseItem}
 use Rattle.va_tree.specs.declared.stmt.Stmt.{Stmt}
 use Rattle.va_tree.specs.declared.module.Item.{Item}
-use Rattle.va_tree.specs.Statements.{Statement, statement_of}
+use Rattle.va_tree.specs.Declarations.{declared}
+use Rattle.va_tree.specs.Statements.{Statement, null, block, only_if, if_else, cases, for_loop, while_loop, repeat_loop, event, assign, contribute, task, statement_of}
 use Rattle.va_sem.specs.Declarations.{analog_body, analog_bodies}
 use Rattle.va_sem.specs.LookedAt.{looked_at}
 use Rattle.va_sem.specs.rules.Biased.{is_biased, analysis_of}
 use Rattle.va_sem.specs.rules.BranchKinds.{is_zero, always_contributes, kind_of}
-use Rattle.va_sem.specs.rules.Values.{Purpose, assigned, contributed, tested, initial, Around, Value, values_in}
+use Rattle.va_sem.specs.rules.Values.{Purpose, assigned, contributed, tested, initial, Around, under, looped, Value, value_for, tests_of, is_evaluated, values_in, values_in_statements, values_in_items, values_in_defaults}
 use Rattle.va_sem.specs.rules.Uses.{meaning_of, is_access, is_variable_in}
 
 abbrev pub looked_at_arg : Arg → List Expression
@@ -54,6 +55,55 @@ meanings_in meaning = map (meaning_of meaning)
 abbrev pub flows_read : Option Meaning → List Finding
 flows_read (Some (means.Access branch turned true)) = FlowRead branch ∷ []
 flows_read _ = []
+
+-- the values that a statement asks for itself, before the statements in it
+abbrev pub own_values : Around → Statement → List Value
+own_values around (null at) = []
+own_values around (block at label declarations body) = map (value_for around initial) (declared declarations)
+own_values around (only_if at test a) = value_for around tested test ∷ []
+own_values around (if_else at test a b) = value_for around tested test ∷ []
+own_values around (cases at selector items otherwise) = map (value_for around tested) (selector ∷ tests_of items)
+own_values around (for_loop at target first test target' step body) =
+    value_for around tested test
+    ∷ value_for (looped test around) (assigned target.at) first
+    ∷ value_for (looped test around) (assigned target'.at) step
+    ∷ []
+own_values around (while_loop at test body) = value_for around tested test ∷ []
+own_values around (repeat_loop at count body) = value_for around tested count ∷ []
+own_values around (event at kind analyses body) = []
+own_values around (assign at target value) = value_for around (assigned at) value ∷ []
+own_values around (contribute at access first second value) = value_for around (contributed at) value ∷ []
+own_values around (task at bytes args) = []
+
+-- what is around the statements in a statement
+abbrev pub around_inner : Statement → Around → Around
+around_inner (null at) around = around
+around_inner (block at label declarations body) around = around
+around_inner (only_if at test a) around = under (test ∷ []) around
+around_inner (if_else at test a b) around = under (test ∷ []) around
+around_inner (cases at selector items otherwise) around = under (selector ∷ tests_of items) around
+around_inner (for_loop at target first test target' step body) around = looped test around
+around_inner (while_loop at test body) around = looped test around
+around_inner (repeat_loop at count body) around = looped count around
+around_inner (event at kind analyses body) around = around
+around_inner (assign at target value) around = around
+around_inner (contribute at access first second value) around = around
+around_inner (task at bytes args) around = around
+
+-- the values that the statements in a statement ask for, with this around them
+abbrev pub inner_values : Statement → Around → List Value
+inner_values (null at) around = []
+inner_values (block at label declarations body) around = values_in_statements around body
+inner_values (only_if at test a) around = values_in around a
+inner_values (if_else at test a b) around = values_in around a ++ values_in around b
+inner_values (cases at selector items otherwise) around = values_in_items around items ++ values_in_defaults around otherwise
+inner_values (for_loop at target first test target' step body) around = values_in around body
+inner_values (while_loop at test body) around = values_in around body
+inner_values (repeat_loop at count body) around = values_in around body
+inner_values (event at kind analyses body) around = if is_evaluated kind then values_in around body else []
+inner_values (assign at target value) around = []
+inner_values (contribute at access first second value) around = []
+inner_values (task at bytes args) around = []
 
 -- whether a name makes an expression biased
 abbrev pub reads_biased : (ℕ → Bool) → Option Meaning → Bool
@@ -106,6 +156,13 @@ module _ (meaning : ℕ → Option Meaning) (biased : ℕ → Bool) where
   -- what a value tells: the flows that it reads, and what it is for
   abbrev pub found_by : Value → List Finding
   found_by v = flows_in v.expression ++ purpose_found v.purpose v.expression v.around.conditions
+
+  -- Reading what a statement evaluates itself adds what these values tell, and answers whether a condition over the statements in it
+  -- is biased.
+  abbrev pub Enters : Bool → Statement → List Finding → List Finding → Bool → Type 0
+  Enters under s old new inside =
+      (around : Around) → under ≡ any_biased around.conditions
+      → (new ≡ old ++ flat_map found_by (own_values around s)) × (inside ≡ any_biased (around_inner s around).conditions)
 
   -- A walk under conditions of which some is biased or none, adds what values tell.
   abbrev pub Visits : Bool → (Around → List Value) → List Finding → List Finding → Type 0

@@ -1,4 +1,4 @@
--- What the rules look at in a module.
+-- What the rules look at in a module (Analog procedural block, User-defined analog functions).
 use Rattle.std.specs.Prelude.{ℕ, List, map}
 use Rattle.va_tree.specs.declared.module.Module.{Module}
 use Rattle.va_tree.specs.Parts.{Part, module_parts}

@@ -1,4 +1,5 @@
--- The unknowns of a module in order, and the pairs of nodes that may collapse.
+-- The unknowns of a module in order (Branches), and the pairs of nodes that may collapse (Switch branches): the nodes and the
+-- collapsible pairs of the descriptor of OSDI 0.3.
 use Rattle.std.specs.Prelude.{ℕ, ◌==◌, Bool, true, false, not, List, [], ◌∷◌, ◌++◌, Option, Some, None, map, filter, length, slice_get, IsSome}
 use Rattle.std.specs.List.{range_with_len, filter_map}
 use Rattle.va_base.specs.Tables.{PairLine}

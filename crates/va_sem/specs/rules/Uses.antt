@@ -1,4 +1,4 @@
--- The arguments of a call that are looked at, and what names mean.
+-- The arguments of a call that are looked at, and what names mean (Expressions, Signal access functions).
 use Rattle.std.specs.Prelude.{ℕ, ◌+◌, ◌==◌, Bool, true, false, List, [], ◌∷◌, ◌++◌, Option, Some, None, if◌then◌else◌}
 use Rattle.va_tree.specs.declared.expr.Callee.{Callee}
 use Rattle.va_tree.specs.Expressions.{Expression, Arguments, literal, infinity, name, group, unary, binary, choose, call, no_more, text_then, expression_then}
