@@ -24,8 +24,10 @@ use Rattle.va_sem.specs.TextOrder.{put_in, in_text_order}
 use Rattle.va_sem.specs.Typing.{Typing, parameter_types, meaning_at, signature_of, signature_at, typing_of}
 use Rattle.va_sem.specs.rules.Biased.{Analysis, analysis_of, is_biased, is_assigned_to}
 use Rattle.va_sem.specs.rules.BranchKinds.{Contribution, is_zero, contribution_by, contribution_for, contributions, potentials_to, flows_to, may_collapse, is_flow_read, is_empty, always_contributes}
-use Rattle.va_sem.specs.rules.RuleLaws.{AreNumbered}
-use Rattle.va_sem.proofs.RuleLaws.{rules_give_least_sets}
+use Rattle.va_sem.specs.Meanings.{names_of_module}
+use Rattle.va_sem.specs.MeaningsLaws.{AreNumbered}
+use Rattle.va_sem.proofs.NumberedNames.{names_are_numbered}
+use Rattle.va_sem.proofs.RuleLaws.{biased_least}
 use Rattle.va_sem.specs.rules.Uses.{meaning_of, is_access, is_variable_in}
 use Rattle.va_sem.specs.rules.Values.{Purpose, assigned, contributed, tested, initial, Around, Value, value_for, under as within, looped, tests_of, values_in, values_in_statements, values_in_items, values_in_defaults, values_of}
 use Rattle.va_tree.specs.declared.expr.Callee.TheVariants.{Function, System}
@@ -390,7 +392,7 @@ module _ (names : ModuleNames) (m : Module) (numbered : AreNumbered names) where
       → ((f : Value → Bool) → f v ≡ true → list_any f a.values ≡ true)
       → list_any (elaborated names m).is_biased (v.expression ∷ v.around.conditions) ≡ true → a.biased x ≡ true
   assignment_closed v at x p e is_in h =
-      (rules_give_least_sets.biased names (analog_bodies m) numbered).closed x (numbered at x e)
+      (biased_least names numbered (analog_bodies m)).closed x (numbered at x e)
       (is_in (λ w. is_assigned_to a.meaning x w.purpose && list_any (is_biased a.meaning a.biased) (w.expression ∷ w.around.conditions))
       (λ j. ((λ i. is_assigned_to a.meaning x (p i)) ∙ ap (is_variable_in (λ other. other == x)) e ∙ eq-eqb x x refl) j && h j))
 
@@ -473,7 +475,7 @@ elaboration_laws = record {
       parameters_have_types (typing_of names.uses m) 0 (parameters_of m) p
       (types_long _ (parameters_of m) (record (typing_of names.uses m) { parameters = [] }) (length (parameters_of m)) ∙ (let same : length (parameters_of m) ≡ 0 + length (parameters_of m) = omega arith in same))
       ∙ ap (λ i. get_or (typing_of names.uses m).parameters i Real) (let same : 0 + p ≡ p = omega arith in same);
-  bias = λ names m numbered. record {
+  bias = λ s number m. let names : ModuleNames = names_of_module s number m in let numbered = names_are_numbered.variables s number m in record {
     expressions = λ e h. unbiased_fixed (elaborated names m) (analysis_of names (analog_bodies m)).biased e h;
     blocks = blocks_keep_from (elaborated names m) (analysis_of names (analog_bodies m)).biased (analog_bodies m) (values_closed names m numbered (values_of (analog_bodies m)) (λ f h. h));
   };

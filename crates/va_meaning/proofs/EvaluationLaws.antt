@@ -16,7 +16,8 @@ use Rattle.alg_laws.proofs.Related.{duals_related}
 use Rattle.alg_laws.proofs.Relations.{mains_relate, validity_relates, lifts_relate}
 use Rattle.va_sem.specs.Declarations.{analog_bodies}
 use Rattle.va_sem.specs.rules.Biased.{analysis_of}
-use Rattle.va_meaning.specs.Elaboration.{elaborated}
+use Rattle.va_sem.specs.Meanings.{names_of_module}
+use Rattle.va_meaning.specs.Elaboration.{module_seen}
 use Rattle.va_meaning.proofs.Elaborated.{elaboration_laws}
 use Rattle.va_meaning.specs.Bias.{SameFixed}
 use Rattle.va_meaning.specs.EvaluationLaws.{main_point, PointValid, ContextValid, StateValid, MainsOfEvaluations, ValidityOfEvaluations, LiftsOfEvaluations, MainsOfParts, BoundsOfEvaluations, DepthsOfFunctions, FixedOfEvaluations}
@@ -58,17 +59,17 @@ pub depths_of_functions : {V : Type 0} (o : Operations V) (valid : V → Type 0)
 depths_of_functions o valid = record {
   defined = λ M s P n answers depth more le f outs v e.
       gives_extended Turns v (deeper_extends M o s P answers n depth more le f outs outs (outcomes_extend_themselves outs)) e;
-  deeper = λ M s P n answers h depth le f outs. functions_same M (without_unknowns (over o s P n answers)) (length M.functions) depth f outs le (h f);
+  deeper = λ M s P n answers h depth le f less outs. functions_same M (without_unknowns (over o s P n answers)) (length M.functions) depth f outs le (h f less);
 }
 
 pub fixed_of_evaluations : {V : Type 0} (o : Operations V) (valid : V → Type 0) → FixedOfEvaluations V o valid
 fixed_of_evaluations o valid = record {
   evaluation = λ M biased h s P n answers unknowns last other e f.
       both_gave (SameFixed M biased) _ _ last other (evaluated_both M biased h (over o s P n answers) unknowns) e f;
-  modules = λ names m numbered s P n answers unknowns last other e f.
-      let biased = (analysis_of names (analog_bodies m)).biased in
-      both_gave (SameFixed (elaborated names m) biased) _ _ last other
-      (evaluated_both (elaborated names m) biased (elaboration_laws.bias names m numbered) (over o s P n answers) unknowns) e f;
+  modules = λ t number m s P n answers unknowns last other e f.
+      let M = module_seen t number m in
+      let biased = (analysis_of (names_of_module t number m) (analog_bodies m)).biased in
+      both_gave (SameFixed M biased) _ _ last other (evaluated_both M biased (elaboration_laws.bias t number m) (over o s P n answers) unknowns) e f;
 }
 
 module _ {V : Type 0} (o : Operations V) (valid unit : V → Type 0) (l : IsAlgebra o valid unit) where

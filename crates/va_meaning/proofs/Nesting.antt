@@ -7,20 +7,56 @@ use Rattle.alg_laws.specs.declared.number.Reason.{Reason}
 use Rattle.alg_laws.specs.declared.number.Reason.TheVariants.{Turns}
 use Rattle.alg_laws.specs.Loop.{while_turns}
 use Rattle.alg_laws.specs.NumberOps.{joined, converted, to_integer, is_true, is_same}
+use Rattle.alg_laws.specs.Operations.{Operations}
 use Rattle.alg_laws.specs.Outcome.{Outcome, gives, ◌>>=◌}
+use Rattle.va_sem.specs.declared.builtin.SystemFunction.TheVariants.{Temperature, ThermalVoltage, Limit, SimParam, ParamGiven}
+use Rattle.va_sem.specs.declared.builtin.SystemName.{SystemName}
+use Rattle.va_sem.specs.declared.builtin.SystemName.TheVariants as system_name
 use Rattle.va_sem.specs.declared.names.Meaning.{Meaning}
 use Rattle.va_sem.specs.declared.names.Meaning.TheVariants.{Var}
+use Rattle.va_sem.specs.Builtins.{system_name_of}
+use Rattle.va_sem.specs.LookedAt.{looks, call_looks}
+use Rattle.va_tree.specs.declared.expr.Callee.TheVariants as callee_of
 use Rattle.va_tree.specs.declared.stmt.EventKind.TheVariants.{InitialStep, FinalStep}
 use Rattle.va_tree.specs.Declarations.{declared}
 use Rattle.va_tree.specs.Expressions.{Expression, Arguments, literal, infinity, name, group, unary, binary, choose, call, no_more, text_then, expression_then}
 use Rattle.va_tree.specs.Statements.{Statement, Statements, Items, Defaults, null, block, only_if, if_else, cases, for_loop, while_loop, repeat_loop, event, assign, contribute, task, no_more as no_statement, statement_then, no_items, item_then, no_defaults, default_then}
-use Rattle.va_meaning.specs.Called.{Called, builtin, system, function, access, none, called}
+use Rattle.va_meaning.specs.Called.{Called, builtin, system, function, access, none, called, system_called}
 use Rattle.va_meaning.specs.Elaborated.{Elaborated, Initialiser, Function}
-use Rattle.va_meaning.specs.Evaluation.{zeros, started, initialised, passed, function_or_none, functions_to}
-use Rattle.va_meaning.specs.Nesting.{IfFunction, CallsOnly, ArgumentsCallOnly, AllCallOnly, RunsOnly, AllRunOnly, ItemsRunOnly, DefaultsRunOnly, InitialisersCallOnly, FunctionCallsOnly, IsNested}
+use Rattle.va_meaning.specs.Evaluation.{zeros, started, initialised, passed, function_or_none, run_blocks, functions_to}
+use Rattle.va_meaning.specs.Nesting.{IfFunction, IfLookedAt, CallsOnly, ArgumentsCallOnly, AllCallOnly, RunsOnly, AllRunOnly, ItemsRunOnly, DefaultsRunOnly, InitialisersCallOnly, FunctionCallsOnly, IsNested}
 use Rattle.va_meaning.specs.Points.{Context, Store, State, with_variable, at_unknowns}
 use Rattle.va_meaning.specs.Runs.{sizes, statement_size, items_size, under_all, item_values, repeated, test_of, assigned, assign_value, contributed, is_among, under, run, run_all, run_case, run_default}
-use Rattle.va_meaning.specs.Values.{Functions, Result, size, unary_value, binary_value, call_value, value_of, outcomes_of, no_value}
+use Rattle.va_meaning.specs.Values.{Functions, Result, argument, size, unary_value, binary_value, call_value, value_of, outcomes_of}
+
+-- two lists of outcomes are the same at the places that are looked at
+abbrev Agree : {X : Type 0} → (ℕ → Bool) → ℕ → List X → List X → Type 0
+Agree looked place [] [] = Unit {0}
+Agree looked place [] (y ∷ ys) = ⊥
+Agree looked place (x ∷ xs) [] = ⊥
+Agree looked place (x ∷ xs) (y ∷ ys) = (looked place ≡ true → x ≡ y) × Agree looked (place + 1) xs ys
+
+all_agree : {X : Type 0} (looked : ℕ → Bool) → ((place : ℕ) → looked place ≡ true) → (place : ℕ) (xs ys : List X) → Agree looked place xs ys → xs ≡ ys
+all_agree looked all place [] [] h = refl
+all_agree looked all place [] (y ∷ ys) h = absurd h
+all_agree looked all place (x ∷ xs) [] h = absurd h
+all_agree looked all place (x ∷ xs) (y ∷ ys) h = λ j. h.0 (all place) j ∷ all_agree looked all (place + 1) xs ys h.1 j
+
+first_agrees : {V : Type 0} (o : Operations V) (looked : ℕ → Bool) → looked 0 ≡ true → (xs ys : List (Result V)) → Agree looked 0 xs ys
+    → argument o 0 xs ≡ argument o 0 ys
+first_agrees o looked is [] [] h = refl
+first_agrees o looked is [] (y ∷ ys) h = absurd h
+first_agrees o looked is (x ∷ xs) [] h = absurd h
+first_agrees o looked is (x ∷ xs) (y ∷ ys) h = h.0 is
+
+said : (b : Bool) (X : Type 0) → b ≡ true → IfLookedAt b X → X
+said true X is x = x
+said false X is x = absurd (cc (is))
+
+-- P holds of all that some statements call
+abbrev pub BlocksRunOnly : Elaborated → (Called → Type 0) → List Statement → Type 0
+BlocksRunOnly M P [] = Unit {0}
+BlocksRunOnly M P (s ∷ rest) = RunsOnly M P s × BlocksRunOnly M P rest
 
 module _ {V : Type 0} (M : Elaborated) (c : Context V) (u : ℕ → V) (P : Called → Type 0) (F G : Functions V)
     (agree : (what : Called) (place : ℕ) (args : Arguments) (outs : List (Result V)) → P what
@@ -29,6 +65,21 @@ module _ {V : Type 0} (M : Elaborated) (c : Context V) (u : ℕ → V) (P : Call
       → call_value M c F what place args outs ≡ call_value M (at_unknowns c u) G what place args outs'
   call_same what place args outs outs' h e =
       agree what place args outs h ∙ (λ j. call_value M (at_unknowns c u) G what place args (e j))
+
+  system_same : (name : Option SystemName) (place : ℕ) (args : Arguments) (outs outs' : List (Result V)) → P (system_called name)
+      → Agree (looks name) 0 outs outs' → call_value M c F (system_called name) place args outs ≡ call_value M (at_unknowns c u) G (system_called name) place args outs'
+  system_same None place args outs outs' h e = refl
+  system_same (Some system_name.Task) place args outs outs' h e = refl
+  system_same (Some (system_name.Function Temperature)) place args outs outs' h e =
+      call_same (system Temperature) place args outs outs' h (all_agree (looks (Some (system_name.Function Temperature))) (λ k. refl) 0 outs outs' e)
+  system_same (Some (system_name.Function ThermalVoltage)) place args outs outs' h e =
+      call_same (system ThermalVoltage) place args outs outs' h (all_agree (looks (Some (system_name.Function ThermalVoltage))) (λ k. refl) 0 outs outs' e)
+  system_same (Some (system_name.Function Limit)) place args outs outs' h e =
+      agree (system Limit) place args outs h ∙ first_agrees c.ops (looks (Some (system_name.Function Limit))) refl outs outs' e
+  system_same (Some (system_name.Function SimParam)) place args outs outs' h e =
+      call_same (system SimParam) place args outs outs' h (all_agree (looks (Some (system_name.Function SimParam))) (λ k. refl) 0 outs outs' e)
+  system_same (Some (system_name.Function ParamGiven)) place args outs outs' h e =
+      call_same (system ParamGiven) place args outs outs' h (all_agree (looks (Some (system_name.Function ParamGiven))) (λ k. refl) 0 outs outs' e)
 
   mutual
     value_same : (place : ℕ) (e : Expression) (s : Store V) → CallsOnly M P e → value_of M c F place e s ≡ value_of M (at_unknowns c u) G place e s
@@ -43,14 +94,18 @@ module _ {V : Type 0} (M : Elaborated) (c : Context V) (u : ℕ → V) (P : Call
         value_same (place + 1) test s h.0 j
         >>= λ t. (if is_true c.ops t then value_same (place + 1 + size test) a s h.1 j else value_same (place + 1 + size test + size a) b s h.2 j)
         >>= converted c.ops (joined (M.type_of a) (M.type_of b))
-    value_same place (call at callee bytes args) s h =
-        call_same (called (M.meaning at) callee bytes) place args _ _ h.0 (outcomes_same (place + 1) args s h.1)
+    value_same place (call at callee_of.Function bytes args) s h =
+        call_same (called (M.meaning at) callee_of.Function bytes) place args _ _ h.0
+        (all_agree (call_looks callee_of.Function bytes) (λ k. refl) 0 _ _ (outcomes_agree (call_looks callee_of.Function bytes) 0 (place + 1) args s h.1))
+    value_same place (call at callee_of.System bytes args) s h =
+        system_same (system_name_of bytes) place args _ _ h.0 (outcomes_agree (call_looks callee_of.System bytes) 0 (place + 1) args s h.1)
 
-    outcomes_same : (place : ℕ) (args : Arguments) (s : Store V) → ArgumentsCallOnly M P args
-        → outcomes_of M c F place args s ≡ outcomes_of M (at_unknowns c u) G place args s
-    outcomes_same place no_more s h = refl
-    outcomes_same place (text_then text rest) s h = λ j. gives (no_value c.ops) ∷ outcomes_same place rest s h j
-    outcomes_same place (expression_then e rest) s h = λ j. value_same place e s h.0 j ∷ outcomes_same (place + size e) rest s h.1 j
+    outcomes_agree : (looked : ℕ → Bool) (k place : ℕ) (args : Arguments) (s : Store V) → ArgumentsCallOnly M P looked k args
+        → Agree looked k (outcomes_of M c F place args s) (outcomes_of M (at_unknowns c u) G place args s)
+    outcomes_agree looked k place no_more s h = tt
+    outcomes_agree looked k place (text_then text rest) s h = ((λ _. refl), outcomes_agree looked (k + 1) place rest s h)
+    outcomes_agree looked k place (expression_then e rest) s h =
+        ((λ is. value_same place e s (said (looked k) (CallsOnly M P e) is h.0)), outcomes_agree looked (k + 1) (place + size e) rest s h.1)
 
   test_same : (place : ℕ) (e : Expression) (s : State V) → CallsOnly M P e → test_of M c F place e s ≡ test_of M (at_unknowns c u) G place e s
   test_same place e s h = λ j. value_same place e s.variables h j >>= λ v. gives (is_true c.ops v)
@@ -123,7 +178,7 @@ module _ {V : Type 0} (M : Elaborated) (c : Context V) (u : ℕ → V) (P : Call
     run_default_same biased place no_defaults s h = refl
     run_default_same biased place (default_then at body rest) s h = run_same biased place body s h.0
 
-  initialised_same : (is : List Initialiser) (s : Store V) → InitialisersCallOnly M P is
+  pub initialised_same : (is : List Initialiser) (s : Store V) → InitialisersCallOnly M P is
       → initialised M c F is s ≡ initialised M (at_unknowns c u) G is s
   initialised_same [] s h = refl
   initialised_same (i ∷ is) s h = λ j.
@@ -144,8 +199,12 @@ module _ {V : Type 0} (M : Elaborated) (c : Context V) (u : ℕ → V) (P : Call
       >>= λ s. initialised_same f.initialisers s h.0 j
       >>= λ t. run_same false 0 f.body (started M c.ops t) h.1 j >>= λ last. converted c.ops f.ty (last.variables f.result)
 
+  pub blocks_same : (place : ℕ) (ps : List Statement) (s : State V) → BlocksRunOnly M P ps → run_blocks M c F place ps s ≡ run_blocks M (at_unknowns c u) G place ps s
+  blocks_same place [] s h = refl
+  blocks_same place (p ∷ ps) s h = λ j. run_same false place p s h.0 j >>= λ t. blocks_same (place + statement_size p) ps t h.1 j
+
 -- what is called, where all functions that are called agree
-called_agree : {V : Type 0} (M : Elaborated) (c : Context V) (P : ℕ → Type 0) (F G : Functions V)
+pub called_agree : {V : Type 0} (M : Elaborated) (c : Context V) (P : ℕ → Type 0) (F G : Functions V)
     → ((f : ℕ) → P f → (outs : List (Result V)) → F f outs ≡ G f outs)
     → (what : Called) (place : ℕ) (args : Arguments) (outs : List (Result V)) → IfFunction P what
     → call_value M c F what place args outs ≡ call_value M c G what place args outs

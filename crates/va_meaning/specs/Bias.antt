@@ -1,4 +1,5 @@
--- What doesn't depend on the unknowns. This profile tells it by biased variables: a module keeps to a set of them.
+-- What doesn't depend on the unknowns (Conditional statements, Switch branches). This profile tells it by biased variables: a module
+-- keeps to a set of them.
 use Rattle.std.specs.Prelude.{◌≡◌, ℕ, ◌||◌, Bool, true, false, List, [], ◌∷◌, Option, Some}
 use Rattle.va_sem.specs.declared.branch.BranchKind.TheVariants.{Collapsing}
 use Rattle.va_sem.specs.declared.builtin.SystemFunction.TheVariants.{Limit}

@@ -7,6 +7,7 @@ use Rattle.va_sem.specs.declared.branch.BranchKind.TheVariants.{Flow}
 use Rattle.va_sem.specs.declared.names.ModuleNames.{ModuleNames}
 use Rattle.va_sem.specs.Declarations.{VariableEntry, ParameterEntry, FunctionEntry, declared_variables, variables_in_blocks, argument_names, functions_of, parameters_of, variables_of, analog_bodies}
 use Rattle.va_sem.specs.Lookup.{Bytes}
+use Rattle.va_sem.specs.Meanings.{names_of_module}
 use Rattle.va_sem.specs.TextOrder.{in_text_order, number_at}
 use Rattle.va_sem.specs.Typing.{Typing, meaning_at, type_of, typing_of}
 use Rattle.va_sem.specs.Walks.{in_effect}
@@ -23,6 +24,7 @@ use Rattle.va_tree.specs.declared.module.Module.{Module}
 use Rattle.va_tree.specs.declared.module.Range.{Range as WrittenRange}
 use Rattle.va_tree.specs.declared.module.Range.TheVariants as written
 use Rattle.va_tree.specs.declared.name.NameAt.{NameAt}
+use Rattle.va_tree.specs.declared.source.Source.{Source}
 use Rattle.va_tree.specs.Expressions.{expression_of}
 use Rattle.va_tree.specs.Statements.{statement_of}
 use Rattle.va_meaning.specs.Elaborated.{Elaborated, Parameter, Range, from, exclude, exclude_value, Interval, End, Initialiser, Function}
@@ -97,3 +99,7 @@ elaborated names m =
       unknowns = unknowns names analysis;
       blocks = analog_bodies m;
     }
+
+-- the module of a number of a text
+abbrev pub module_seen : Source → ℕ → Module → Elaborated
+module_seen s number m = elaborated (names_of_module s number m) m

@@ -76,3 +76,9 @@ abbrev pub evaluated : {V : Type 0} → Elaborated → Context V → Outcome Rea
 evaluated M c = do
   vars ← initialised M (without_unknowns c) (functions M c) M.initialisers (zeros M c.ops)
   run_blocks M c (functions M c) 0 M.blocks (started M c.ops vars)
+
+-- The same where calls of functions are nested at most so deep.
+abbrev pub evaluated_to : {V : Type 0} → Elaborated → Context V → ℕ → Outcome Reason (State V)
+evaluated_to M c depth = do
+  vars ← initialised M (without_unknowns c) (functions_to M (without_unknowns c) depth) M.initialisers (zeros M c.ops)
+  run_blocks M c (functions_to M (without_unknowns c) depth) 0 M.blocks (started M c.ops vars)

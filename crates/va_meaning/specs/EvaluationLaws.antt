@@ -1,5 +1,5 @@
 -- What holds of every evaluation over every algebra.
-use Rattle.std.specs.Prelude.{◌≡◌, ℕ, ◌≤◌, Bool, List, All, length}
+use Rattle.std.specs.Prelude.{◌≡◌, ℕ, ◌≤◌, ◌<◌, Bool, List, All, length}
 use Rattle.alg_laws.specs.declared.dual.Dual.{Dual}
 use Rattle.alg_laws.specs.declared.number.Number.{Number}
 use Rattle.alg_laws.specs.declared.number.Reason.TheVariants.{IntRange}
@@ -8,12 +8,12 @@ use Rattle.alg_laws.specs.NumberParts.{main_of, NumberValid}
 use Rattle.alg_laws.specs.Operations.{Operations}
 use Rattle.alg_laws.specs.Outcome.{gives, ends}
 use Rattle.alg_laws.specs.Related.{OutcomesRelated, ListsRelated, HasMain, IsLifted, Parts}
-use Rattle.va_sem.specs.declared.names.ModuleNames.{ModuleNames}
 use Rattle.va_sem.specs.Declarations.{analog_bodies}
+use Rattle.va_sem.specs.Meanings.{names_of_module}
 use Rattle.va_sem.specs.rules.Biased.{analysis_of}
-use Rattle.va_sem.specs.rules.RuleLaws.{AreNumbered}
 use Rattle.va_tree.specs.declared.module.Module.{Module}
-use Rattle.va_meaning.specs.Elaboration.{elaborated}
+use Rattle.va_tree.specs.declared.source.Source.{Source}
+use Rattle.va_meaning.specs.Elaboration.{module_seen}
 use Rattle.va_meaning.specs.Bias.{KeepsToBias, SameFixed}
 use Rattle.va_meaning.specs.Elaborated.{Elaborated}
 use Rattle.va_meaning.specs.Evaluation.{evaluated, functions, functions_to}
@@ -100,7 +100,7 @@ pub record DepthsOfFunctions (V : Type 0) (o : Operations V) (valid : V → Type
   pub defined : (M : Elaborated) (s : V) (P : Point V) (n : ℕ) (answers : ℕ → V) (depth more : ℕ) → depth ≤ more → (f : ℕ) (outs : List (Result V))
       → (v : Number V) → functions_to M (over o s P n answers) depth f outs ≡ gives v → functions_to M (over o s P n answers) more f outs ≡ gives v
   pub deeper : (M : Elaborated) (s : V) (P : Point V) (n : ℕ) (answers : ℕ → V) → IsWithoutCycle M → (depth : ℕ)
-      → length M.functions ≤ depth → (f : ℕ) (outs : List (Result V))
+      → length M.functions ≤ depth → (f : ℕ) → f < length M.functions → (outs : List (Result V))
       → functions_to M (without_unknowns (over o s P n answers)) depth f outs ≡ functions M (over o s P n answers) f outs
 
 -- Where a module keeps to a set of biased variables, two defined evaluations at points that differ in unknowns alone end with the
@@ -110,7 +110,7 @@ pub record FixedOfEvaluations (V : Type 0) (o : Operations V) (valid : V → Typ
   pub evaluation : (M : Elaborated) (biased : ℕ → Bool) → KeepsToBias M biased → (s : V) (P : Point V) (n : ℕ) (answers unknowns : ℕ → V)
       → (last other : State V) → evaluated M (over o s P n answers) ≡ gives last
       → evaluated M (at_unknowns (over o s P n answers) unknowns) ≡ gives other → SameFixed M biased last other
-  pub modules : (names : ModuleNames) (m : Module) → AreNumbered names → (s : V) (P : Point V) (n : ℕ) (answers unknowns : ℕ → V)
-      → (last other : State V) → evaluated (elaborated names m) (over o s P n answers) ≡ gives last
-      → evaluated (elaborated names m) (at_unknowns (over o s P n answers) unknowns) ≡ gives other
-      → SameFixed (elaborated names m) (analysis_of names (analog_bodies m)).biased last other
+  pub modules : (s : Source) (number : ℕ) (m : Module) → let M = module_seen s number m in
+      (x : V) (P : Point V) (n : ℕ) (answers unknowns : ℕ → V) → (last other : State V) → evaluated M (over o x P n answers) ≡ gives last
+      → evaluated M (at_unknowns (over o x P n answers) unknowns) ≡ gives other
+      → SameFixed M (analysis_of (names_of_module s number m) (analog_bodies m)).biased last other

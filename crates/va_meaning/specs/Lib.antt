@@ -1,5 +1,6 @@
 pub mod Bias
 pub mod Called
+pub mod CycleLaws
 pub mod Elaborated
 pub mod Elaboration
 pub mod ElaborationLaws

@@ -1,6 +1,8 @@
--- What expressions and statements call, and how deep calls of a module's functions are nested (User-defined analog functions).
-use Rattle.std.specs.Prelude.{ℕ, zero, suc, List, [], ◌∷◌, Option, Some, None, length}
+-- What expressions and statements call where evaluation looks, and how deep calls of a module's functions are nested (User-defined
+-- analog functions).
+use Rattle.std.specs.Prelude.{ℕ, zero, suc, ◌+◌, ◌<◌, Bool, true, false, List, [], ◌∷◌, Option, Some, None, length}
 use Rattle.std.specs.List.{slice_get}
+use Rattle.va_sem.specs.LookedAt.{call_looks}
 use Rattle.va_tree.specs.Expressions.{Expression, Arguments, literal, infinity, name, group, unary, binary, choose, call, no_more, text_then, expression_then}
 use Rattle.va_tree.specs.Statements.{Statement, Statements, Items, Defaults, null, block, only_if, if_else, cases, for_loop, while_loop, repeat_loop, event, assign, contribute, task, no_more as no_statement, statement_then, no_items, item_then, no_defaults, default_then}
 use Rattle.va_meaning.specs.Called.{Called, builtin, system, function, access, none, called}
@@ -14,9 +16,14 @@ IfFunction P (system s) = Unit {0}
 IfFunction P (access b turned flow) = Unit {0}
 IfFunction P none = Unit {0}
 
+-- what is said of an argument, if it is looked at
+abbrev pub IfLookedAt : Bool → Type 0 → Type 0
+IfLookedAt true P = P
+IfLookedAt false P = Unit {0}
+
 module _ (M : Elaborated) (P : Called → Type 0) where
   abbrev mutual
-    -- P holds of all that an expression calls
+    -- P holds of all that an expression calls, but for arguments that are not looked at, whose values are of no use
     pub CallsOnly : Expression → Type 0
     CallsOnly (literal at value integer) = Unit {0}
     CallsOnly (infinity at) = Unit {0}
@@ -25,12 +32,13 @@ module _ (M : Elaborated) (P : Called → Type 0) where
     CallsOnly (unary at op operand) = CallsOnly operand
     CallsOnly (binary at left op right) = CallsOnly left × CallsOnly right
     CallsOnly (choose at test a b) = CallsOnly test × CallsOnly a × CallsOnly b
-    CallsOnly (call at callee bytes args) = P (called (M.meaning at) callee bytes) × ArgumentsCallOnly args
+    CallsOnly (call at callee bytes args) = P (called (M.meaning at) callee bytes) × ArgumentsCallOnly (call_looks callee bytes) 0 args
 
-    pub ArgumentsCallOnly : Arguments → Type 0
-    ArgumentsCallOnly no_more = Unit {0}
-    ArgumentsCallOnly (text_then text rest) = ArgumentsCallOnly rest
-    ArgumentsCallOnly (expression_then e rest) = CallsOnly e × ArgumentsCallOnly rest
+    -- in arguments, of which the first of the list stands at a place
+    pub ArgumentsCallOnly : (ℕ → Bool) → ℕ → Arguments → Type 0
+    ArgumentsCallOnly looks place no_more = Unit {0}
+    ArgumentsCallOnly looks place (text_then text rest) = ArgumentsCallOnly looks (place + 1) rest
+    ArgumentsCallOnly looks place (expression_then e rest) = IfLookedAt (looks place) (CallsOnly e) × ArgumentsCallOnly looks (place + 1) rest
 
   abbrev pub AllCallOnly : List Expression → Type 0
   AllCallOnly [] = Unit {0}
@@ -80,4 +88,4 @@ IsNested M (suc depth) f = FunctionCallsOnly M (IfFunction (IsNested M depth)) (
 
 -- No function of the module leads back to itself: calls are never nested deeper than there are functions.
 abbrev pub IsWithoutCycle : Elaborated → Type 0
-IsWithoutCycle M = (f : ℕ) → IsNested M (length M.functions) f
+IsWithoutCycle M = (f : ℕ) → f < length M.functions → IsNested M (length M.functions) f

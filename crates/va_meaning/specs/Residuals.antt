@@ -1,4 +1,4 @@
--- The resistive and reactive residuals of a module, and its Jacobian.
+-- The resistive and reactive residuals of a module (Time derivative operator), and its Jacobian.
 --
 -- A time derivative multiplies by an element s of the algebra. Over dual numbers, with s the dual number whose main is 0 and
 -- whose part is 1, the main of a residual is what is left of it in a resting circuit, and the part what is differentiated by

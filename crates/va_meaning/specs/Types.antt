@@ -1,4 +1,4 @@
--- The types of values: that a value has the type that its expression has.
+-- The types of values (Expressions, Operators): that a value has the type that its expression has.
 use Rattle.std.specs.Prelude.{◌≡◌, ℕ, [], flat_map, get_or, Option, Some, None}
 use Rattle.std.specs.List.{slice_get}
 use Rattle.alg_laws.specs.declared.number.Ty.{Ty}

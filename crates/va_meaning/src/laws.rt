@@ -3,6 +3,7 @@
 //! A law is stated at the algebra `A` and at the dual numbers over it up to three deep. Since `A` is free, it holds of every
 //! algebra. A law that speaks of the dual numbers over its own algebra is stated at the first three.
 ghost use Rattle.alg_laws.specs.AtFour.{AtFour, AtThree};
+ghost use Rattle.va_meaning.specs.CycleLaws.{DepthsInModules};
 ghost use Rattle.va_meaning.specs.EvaluationLaws.{BoundsOfEvaluations, DepthsOfFunctions, FixedOfEvaluations, LiftsOfEvaluations, MainsOfEvaluations, MainsOfParts, ValidityOfEvaluations};
 ghost use Rattle.va_meaning.specs.SetUpLaws.{PointsOfSetUps};
 ghost use Rattle.va_meaning.specs.TypeLaws.{TypesOfValues};
@@ -40,6 +41,12 @@ pub fn depths_of_functions<A: Algebra>(_law: PhantomData<A>)
     ensures { AtFour A.ops A.valid DepthsOfFunctions }
 {}
 
+/// In a module of a text whose names have no fault, functions that are seen deeper than there are functions mean the same, and so
+/// does every evaluation.
+pub fn depths_in_modules<A: Algebra>(_law: PhantomData<A>)
+    ensures { AtFour A.ops A.valid DepthsInModules }
+{}
+
 /// Two defined evaluations at points that differ in unknowns alone end with the same fixed variables and the same marks.
 pub fn fixed_of_evaluations<A: Algebra>(_law: PhantomData<A>)
     ensures { AtFour A.ops A.valid FixedOfEvaluations }
@@ -69,6 +76,7 @@ mod tests {
         mains_of_parts(whole);
         bounds_of_evaluations(whole);
         depths_of_functions(whole);
+        depths_in_modules(whole);
         fixed_of_evaluations(whole);
         types_of_values(whole);
         points_of_set_ups(whole);

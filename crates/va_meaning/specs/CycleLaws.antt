@@ -1,0 +1,38 @@
+-- Where no function of a module leads back to itself, functions are seen deep enough (User-defined analog functions).
+use Rattle.std.specs.Prelude.{◌≡◌, ℕ, ◌≤◌, ◌<◌, List, [], Some, length}
+use Rattle.std.specs.List.{slice_get}
+use Rattle.alg_laws.specs.Operations.{Operations}
+use Rattle.va_sem.specs.Meanings.{known_of}
+use Rattle.va_sem.specs.NamesFaults.{names_faults}
+use Rattle.va_sem.specs.Sites.{Site}
+use Rattle.va_tree.specs.declared.module.Module.{Module}
+use Rattle.va_tree.specs.declared.source.Source.{Source}
+use Rattle.va_meaning.specs.Elaboration.{module_seen}
+use Rattle.va_meaning.specs.Evaluation.{functions, functions_to, evaluated, evaluated_to}
+use Rattle.va_meaning.specs.Nesting.{IsWithoutCycle}
+use Rattle.va_meaning.specs.Points.{Point, over, without_unknowns}
+use Rattle.va_meaning.specs.Values.{Result}
+
+-- Each name of a module stands at a token of its own, as in every text.
+abbrev pub HasOwnTokens : Source → Module → Type 0
+HasOwnTokens s m = (i j : ℕ) (a b : Site) → slice_get (known_of s m).sites i ≡ Some a → slice_get (known_of s m).sites j ≡ Some b
+    → a.at ≡ b.at → i ≡ j
+
+-- The module of a number, in a text whose names have no fault.
+pub record IsOfSoundNames (s : Source) (number : ℕ) (m : Module) : Type 0 where
+  pub stands : slice_get s.modules number ≡ Some m
+  pub names : names_faults s ≡ []
+  pub tokens : HasOwnTokens s m
+
+-- In such a module calls are never nested deeper than there are functions.
+pub record CycleLaws : Type 0 where
+  pub nested : (s : Source) (number : ℕ) (m : Module) → IsOfSoundNames s number m → IsWithoutCycle (module_seen s number m)
+
+-- So its functions mean the same however much deeper they are seen, and so does every evaluation.
+pub record DepthsInModules (V : Type 0) (o : Operations V) (valid : V → Type 0) : Type 0 where
+  pub deeper : (s : Source) (number : ℕ) (m : Module) → IsOfSoundNames s number m → let M = module_seen s number m in
+      (x : V) (P : Point V) (n : ℕ) (answers : ℕ → V) (depth : ℕ) → length M.functions ≤ depth → (f : ℕ) → f < length M.functions
+      → (outs : List (Result V)) → functions_to M (without_unknowns (over o x P n answers)) depth f outs ≡ functions M (over o x P n answers) f outs
+  pub evaluation : (s : Source) (number : ℕ) (m : Module) → IsOfSoundNames s number m → let M = module_seen s number m in
+      (x : V) (P : Point V) (n : ℕ) (answers : ℕ → V) (depth : ℕ) → length M.functions ≤ depth
+      → evaluated_to M (over o x P n answers) depth ≡ evaluated M (over o x P n answers)
