@@ -6,7 +6,7 @@ use Rattle.alg_laws.specs.declared.number.Number.TheVariants.{Real}
 use Rattle.alg_laws.specs.declared.number.Reason.{Reason}
 use Rattle.alg_laws.specs.declared.number.Reason.TheVariants.{Turns, IntRange}
 use Rattle.alg_laws.specs.Outcome.{Outcome, gives, ends}
-use Rattle.va_tree.specs.declared.expr.BinaryOp.TheVariants.{And, Or, Add, Multiply, Divide, Remainder, Power}
+use Rattle.va_tree.specs.declared.expr.BinaryOp.TheVariants.{And, Or, Equal, Add, Subtract, Multiply, Divide, Remainder, Power}
 use Rattle.va_tree.specs.declared.expr.Expr.{Expr}
 use Rattle.va_tree.specs.declared.expr.UnaryOp.TheVariants.{Minus, Not}
 use Rattle.va_tree.specs.declared.module.Item.{Item}
@@ -30,6 +30,10 @@ is x = gives (part x 0 ∷ part 0 0 ∷ [])
 abbrev over_k : Text Expr
 over_k = between (whole 1) Divide (name (codes "k"))
 
+-- -2147483647 - 1, the least integer
+abbrev lowest : Text Expr
+lowest = in_parentheses (between (signed Minus (whole 2147483647)) Subtract (whole 1))
+
 pub record WorkedOperators : Type 0 where
   -- 1 / 2
   pub quotient_of_integers : at_a (to_a (between (whole 1) Divide (whole 2))) ≡ is 0
@@ -47,6 +51,12 @@ pub record WorkedOperators : Type 0 where
   pub right_side_not_asked : at_a (to_a (between (in_parentheses (between (name (codes "k")) And over_k)) Add (in_parentheses (between (signed Not (name (codes "k"))) Or over_k)))) ≡ is 1
   -- 15m
   pub scaled_numeral : at_a (to_a (decimal 15 (negsuc 2))) ≡ is 995003
+  -- (-2147483647 - 1) % -1, in which the quotient leaves the range
+  pub remainder_of_the_lowest : at_a (to_a (between lowest Remainder (signed Minus (whole 1)))) ≡ ends IntRange
+  -- abs(-2147483647 - 1)
+  pub absolute_of_the_lowest : at_a (to_a (of (codes "abs") lowest)) ≡ ends IntRange
+  -- 1000003 == 0, by the integers; in the algebra both are 0
+  pub integers_that_differ : at_a (to_a (between (whole 1000003) Equal (whole 0))) ≡ is 0
   -- $temperature
   pub temperature : at_a (to_a (system_alone (codes "$temperature"))) ≡ is 300
 

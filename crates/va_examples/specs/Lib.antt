@@ -1,5 +1,6 @@
 pub mod DynamicExamples
 pub mod Examples
+pub mod FaultExamples
 pub mod LanguageExamples
 pub mod Notation
 pub mod StaticExamples

@@ -1,14 +1,17 @@
 -- Modules without time derivatives, with values worked out by hand modulo 1000003, where 500002 is a half, and -x is 1000003 - x.
 -- Above each row stands the text of the module's items.
-use Rattle.std.specs.Prelude.{◌≡◌, ℕ, pos, false, List, [], ◌∷◌, Some, codes}
+use Rattle.std.specs.Prelude.{◌≡◌, ℕ, pos, false, List, [], ◌∷◌, map, Some, codes}
 use Rattle.alg_laws.specs.declared.number.Number.TheVariants.{Real, Int}
 use Rattle.alg_laws.specs.declared.number.Reason.TheVariants.{Turns, IntRange}
 use Rattle.alg_laws.specs.Outcome.{gives, ends}
 use Rattle.va_tree.specs.declared.expr.BinaryOp.TheVariants.{Equal, Less, Greater, Add, Multiply, Divide}
 use Rattle.va_tree.specs.declared.module.Item.{Item}
 use Rattle.va_tree.specs.declared.module.Ty.TheVariants as ty
+use Rattle.va_sem.specs.Meanings.{known_of}
+use Rattle.va_sem.specs.NamesFaults.{names_faults}
+use Rattle.va_sem.specs.Sites.{Site}
 use Rattle.va_examples.specs.Notation.{Text, whole, name, between, choice, expression, string, system, of, of_two, assign, contribute, nothing, begins, if_only, if_or_else, case_item, cases, sets, counting, during, repeats, variable, variables, initialised, labelled, defaulted, parameters, analog, function}
-use Rattle.va_examples.specs.Examples.{v_a, v_c, v_a_c, to_a, to_a_c, by_default, on_model, part, rows_at, columns_at, variable_at}
+use Rattle.va_examples.specs.Examples.{source_of, module_of, v_a, v_c, v_a_c, to_a, to_a_c, by_default, on_model, part, rows_at, columns_at, variable_at}
 
 abbrev real_parameter : ℕ → List ℕ → Text Item
 real_parameter value p = parameters false (Some ty.Real) (defaulted p (whole value) [] ∷ [])
@@ -173,4 +176,8 @@ pub record WorkedCalls : Type 0 where
   pub nested_call : rows_at called_before_declared by_default (5 ∷ 3 ∷ []) ≡ gives (part 26 0 ∷ part 0 0 ∷ [])
   pub nested_call_columns : columns_at called_before_declared by_default (5 ∷ 3 ∷ [])
       ≡ gives ((part 10 0 ∷ part 0 0 ∷ []) ∷ (part 0 0 ∷ part 0 0 ∷ []) ∷ [])
+  -- its names have no fault, and no two of them stand at one token: so calls are never nested deeper than there are functions
+  pub names_without_fault : names_faults (source_of (module_of called_before_declared)) ≡ []
+  pub tokens_of_names : map (λ (x : Site). x.at) (known_of (source_of (module_of called_before_declared)) (module_of called_before_declared)).sites
+      ≡ 78 ∷ 80 ∷ 84 ∷ 86 ∷ 88 ∷ 89 ∷ 91 ∷ 96 ∷ 99 ∷ 101 ∷ 103 ∷ 105 ∷ 107 ∷ 116 ∷ 119 ∷ 121 ∷ 123 ∷ 125 ∷ 127 ∷ 131 ∷ 133 ∷ 136 ∷ 138 ∷ 140 ∷ []
   pub arguments_that_are_not_looked_at : rows_at not_looked_at by_default (5 ∷ 3 ∷ []) ≡ gives (part 7 0 ∷ part 0 0 ∷ [])

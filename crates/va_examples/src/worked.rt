@@ -1,5 +1,6 @@
 //! What small modules mean, worked out by hand, as contracts: the definitions compute to it.
 ghost use Rattle.va_examples.specs.DynamicExamples.{WorkedCollapses, WorkedDerivatives, WorkedSetUps};
+ghost use Rattle.va_examples.specs.FaultExamples.{WorkedFaults, WorkedLimits};
 ghost use Rattle.va_examples.specs.LanguageExamples.{WorkedModules, WorkedOperators, WorkedStatements};
 ghost use Rattle.va_examples.specs.StaticExamples.{WorkedCalls, WorkedLoops, WorkedStraight};
 
@@ -48,6 +49,16 @@ pub fn modules_worked_by_hand()
     ensures { WorkedModules }
 {}
 
+/// Each fault of names, types and rules once, in a whole text.
+pub fn faults_worked_by_hand()
+    ensures { WorkedFaults }
+{}
+
+/// The limits of a module.
+pub fn limits_worked_by_hand()
+    ensures { WorkedLimits }
+{}
+
 #[cfg(test)]
 mod tests {
     use super::*;
@@ -63,5 +74,7 @@ mod tests {
         operators_worked_by_hand();
         statements_worked_by_hand();
         modules_worked_by_hand();
+        faults_worked_by_hand();
+        limits_worked_by_hand();
     }
 }

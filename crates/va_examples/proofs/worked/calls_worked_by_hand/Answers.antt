@@ -12,5 +12,7 @@ returns c = record {
   through_the_argument_that_counts = refl;
   nested_call = refl;
   nested_call_columns = refl;
+  names_without_fault = refl;
+  tokens_of_names = refl;
   arguments_that_are_not_looked_at = refl;
 }

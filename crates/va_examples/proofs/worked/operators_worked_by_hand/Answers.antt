@@ -16,5 +16,8 @@ returns c = record {
   type_of_both_arms = refl;
   right_side_not_asked = refl;
   scaled_numeral = refl;
+  remainder_of_the_lowest = refl;
+  absolute_of_the_lowest = refl;
+  integers_that_differ = refl;
   temperature = refl;
 }
