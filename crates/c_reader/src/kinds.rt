@@ -56,8 +56,8 @@ fn is_same(first: &[u8], second: &[u8]) -> bool
     first == second
 }
 
-/// The place of a name in a list.
-fn place_of(names: &[&str], word: &[u8]) -> Option<usize>
+/// The place of a name in a list, counted from 0, or None where it isn't in the list.
+pub fn place_of(names: &[&str], word: &[u8]) -> Option<usize>
     ensures place { result ≡ place_of_lem (map (λ name. name.now) names.now) word.now }
     ensures within { IfSome result (λ place. place < length names.now) }
 {
@@ -199,7 +199,7 @@ pub fn kind_of(kind: CTokenKind, word: &[u8]) -> u16
 }
 
 /// The kind of a token of a text.
-fn kind_in(bytes: &[u8], token: CToken) -> u16
+pub fn kind_in(bytes: &[u8], token: CToken) -> u16
     requires { IsWithin bytes.now token }
     ensures { result ≡ kind_in_lem bytes.now token }
 {

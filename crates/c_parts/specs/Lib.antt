@@ -1,0 +1,14 @@
+pub mod Placed
+pub mod Words
+pub mod RowNumbers
+pub mod RawAtoms
+pub mod RawBodies
+pub mod RawTables
+pub mod RawFiles
+pub mod RawOf
+pub mod Reading
+pub mod SimpleParts
+pub mod TableParts
+pub mod StructParts
+pub mod Steps
+pub mod FileParts
