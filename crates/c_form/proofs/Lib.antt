@@ -1,0 +1,15 @@
+pub mod Blaming
+pub mod Calling
+pub mod Celling
+pub mod Closing
+pub mod Flat
+pub mod KindOrder
+pub mod Knowing
+pub mod Names
+pub mod Naming
+pub mod Numbers
+pub mod Open
+pub mod Pairing
+pub mod Seen
+pub mod Uses
+pub mod Walking

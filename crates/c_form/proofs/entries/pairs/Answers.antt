@@ -1,0 +1,14 @@
+use Rattle.std.proofs.Common.{arith}
+use Rattle.c_raw.specs.Views.{module_view, pair_view}
+use Rattle.c_tree.specs.rules.Tables.{pair_numbers}
+use Rattle.c_form.proofs.Blaming.{blames_at, blames_last}
+use Rattle.c_form.proofs.entries.pairs.Goals as goal
+
+pub loop-found-preserved : goal.loop-found-preserved
+loop-found-preserved c = λ new more.
+    c.loop-found.invariant new
+    (blames_at pair_view (pair_numbers (module_view c.args.tree.now)) _ _ new c.args.list.now c.loop-found.found-index _ (omega arith)
+    c.pair.ensures more)
+
+pub returns : goal.returns
+returns c = c.loop-found.invariant _ (blames_last pair_view (pair_numbers (module_view c.args.tree.now)) _ c.args.list.now c.loop-found.found-index (omega arith))

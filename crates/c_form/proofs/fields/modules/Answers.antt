@@ -1,0 +1,14 @@
+use Rattle.std.proofs.Common.{arith}
+use Rattle.c_tree.specs.rules.Fields.{fields_of_module}
+use Rattle.c_raw.specs.Views.{module_view}
+use Rattle.c_form.proofs.Blaming.{blames_numbered, blames_last_numbered}
+use Rattle.c_form.proofs.fields.modules.Goals as goal
+
+pub loop-index-preserved : goal.loop-index-preserved
+loop-index-preserved c = λ new more.
+    c.loop-index.invariant new
+    (blames_numbered module_view (λ p. fields_of_module p.0 p.1) _ _ new c.args.list.now c.loop-index.index c.index-list-index.result (omega arith) c.index-list-index.is
+    c.in_ok-one_module.ensures more)
+
+pub returns : goal.returns
+returns c = c.loop-index.invariant _ (blames_last_numbered module_view (λ p. fields_of_module p.0 p.1) _ c.args.list.now c.loop-index.index (omega arith))

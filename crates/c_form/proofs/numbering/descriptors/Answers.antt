@@ -1,0 +1,16 @@
+use Rattle.std.proofs.Common.{arith}
+use Rattle.std.specs.List.{flat_map}
+use Rattle.c_tree.specs.Raw.{RawDescriptor}
+use Rattle.c_tree.specs.rules.Numbering.{wants}
+use Rattle.c_raw.specs.Views.{descriptor_view}
+use Rattle.c_form.proofs.Blaming.{blames_numbered, blames_last_numbered}
+use Rattle.c_form.proofs.numbering.descriptors.Goals as goal
+
+pub loop-index-preserved : goal.loop-index-preserved
+loop-index-preserved c = λ new more.
+    c.loop-index.invariant new
+    (blames_numbered descriptor_view (λ p. flat_map (wants p.0) (RawDescriptor.numbers p.1)) _ _ new c.args.list.now c.loop-index.index c.index-list-index.result (omega arith) c.index-list-index.is
+    (rw (← c.as_list.ensures) c.numbers.ensures) more)
+
+pub returns : goal.returns
+returns c = c.loop-index.invariant _ (blames_last_numbered descriptor_view (λ p. flat_map (wants p.0) (RawDescriptor.numbers p.1)) _ c.args.list.now c.loop-index.index (omega arith))

@@ -1,0 +1,33 @@
+//! The rules of form of a C text, asked of its raw tree: which is the least token that breaks one.
+//!
+//! A rule is a module of this crate. It walks the flat lists of statements with a list of open blocks, so no nesting of a text
+//! needs a stack that is as deep.
+#![tactic(auto)]
+
+mod again;
+mod argument_uses;
+mod arguments;
+mod atoms;
+pub mod blame;
+mod body;
+pub mod breaks;
+pub mod calls;
+mod cell_checks;
+mod cell_types;
+pub mod closed;
+mod count;
+mod declarations;
+mod descriptors;
+mod entries;
+mod field;
+mod field_names;
+mod field_rows;
+pub mod fields;
+mod kinds;
+pub mod locals;
+pub mod numbering;
+mod ranges;
+mod scope;
+pub mod tables;
+#[cfg(test)]
+mod tests;
