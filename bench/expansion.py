@@ -1,7 +1,7 @@
 #!/usr/bin/env python3
 """Times the expansion: `vaosdi compile` on texts that end in an unknown macro, so that nothing comes after it.
 
-    bench/expansion.py [--runs 3]
+    bench/expansion.py [--runs 7]
 
 Texts of 16 MB, as they stand and skipped as a whole, are to take at most 12 times what `wc -w` takes on the same file in
 the same run. Results that macros make, at n and 2n tokens, are to grow in step: for twice the result by a factor of at most
@@ -146,7 +146,7 @@ class Bench:
 
 def main():
     words = argparse.ArgumentParser(description=__doc__, formatter_class=argparse.RawDescriptionHelpFormatter)
-    words.add_argument('--runs', type=int, default=3)
+    words.add_argument('--runs', type=int, default=7)
     runs = words.parse_args().runs
     if not is_built():
         return 0

@@ -1,7 +1,7 @@
 #!/usr/bin/env python3
 """Times `vaosdi compile` on texts of the first form, each at n and 2n, and prints seconds and peak memory.
 
-    bench/first_path.py [--runs 3]
+    bench/first_path.py [--runs 7]
 
 Both are to grow in step with the text: for twice the text by a factor of at most 2.2. Texts of a few kilobytes take
 about as long as starting a program does, so their factors lie below. Nothing is kept: the texts are made in a fresh
@@ -37,7 +37,7 @@ def compiled(folder, text, runs):
 
 def main():
     words = argparse.ArgumentParser(description=__doc__, formatter_class=argparse.RawDescriptionHelpFormatter)
-    words.add_argument('--runs', type=int, default=3)
+    words.add_argument('--runs', type=int, default=7)
     runs = words.parse_args().runs
     if not is_built():
         return 0
