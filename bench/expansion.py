@@ -9,13 +9,12 @@ the same run. Results that macros make, at n and 2n tokens, are to grow in step:
 it doesn't grow with the number of uses. Nothing is kept: the texts are made in a fresh folder. It ends with status 1 where
 a bound is passed.
 """
-import argparse
 import os
 import shutil
 import sys
 import tempfile
 
-from measure import FLOOR, GROWTH, PROGRAM, is_built, measured
+from measure import FLOOR, GROWTH, PROGRAM, measured, runs_asked
 
 TIMES = 12
 BYTES = 128
@@ -145,10 +144,8 @@ class Bench:
 
 
 def main():
-    words = argparse.ArgumentParser(description=__doc__, formatter_class=argparse.RawDescriptionHelpFormatter)
-    words.add_argument('--runs', type=int, default=7)
-    runs = words.parse_args().runs
-    if not is_built():
+    runs = runs_asked(__doc__)
+    if runs is None:
         return 0
     print(f'{"text":>36} {"MB":>7} {"tokens":>9} {"s":>8} {"peak MB":>8}')
     with tempfile.TemporaryDirectory() as folder:

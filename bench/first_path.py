@@ -7,12 +7,11 @@ Both are to grow in step with the text: for twice the text by a factor of at mos
 about as long as starting a program does, so their factors lie below. Nothing is kept: the texts are made in a fresh
 folder. It ends with status 1 where a factor is above.
 """
-import argparse
 import os
 import sys
 import tempfile
 
-from measure import FLOOR, GROWTH, PROGRAM, is_built, measured
+from measure import FLOOR, GROWTH, PROGRAM, measured, runs_asked
 
 
 def text_of(params, terms):
@@ -36,10 +35,8 @@ def compiled(folder, text, runs):
 
 
 def main():
-    words = argparse.ArgumentParser(description=__doc__, formatter_class=argparse.RawDescriptionHelpFormatter)
-    words.add_argument('--runs', type=int, default=7)
-    runs = words.parse_args().runs
-    if not is_built():
+    runs = runs_asked(__doc__)
+    if runs is None:
         return 0
     cases = [(f'{n} parameters', n, lambda n: text_of(n, 100), 0) for n in (10, 1000, 2000)]
     cases += [(f'{n} terms', n, lambda n: text_of(10, n), 0) for n in (1000, 10000, 100000)]

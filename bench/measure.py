@@ -1,4 +1,5 @@
 """What the benches share: the program, and how a command is measured."""
+import argparse
 import os
 import sys
 import time
@@ -17,6 +18,14 @@ def is_built():
     if not built:
         print('bench: the program is not built')
     return built
+
+
+def runs_asked(description):
+    """How many runs of each command the words of the script ask for, or None where the program is not built."""
+    words = argparse.ArgumentParser(description=description, formatter_class=argparse.RawDescriptionHelpFormatter)
+    words.add_argument('--runs', type=int, default=7)
+    runs = words.parse_args().runs
+    return runs if is_built() else None
 
 
 def measured(folder, words, runs):
