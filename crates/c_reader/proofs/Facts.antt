@@ -1,6 +1,6 @@
 -- What can be empty, begin and follow, each fact with the row that shows it by facts that stand further down its list.
 use Rattle.std.specs.Prelude.{ℕ, List, [], ◌∷◌}
-use Rattle.va_grammar.proofs.Sound.{Fact, EmptyFact}
+use Rattle.predict.proofs.Sound.{Fact, EmptyFact}
 
 -- a nonterminal, and its row that can be empty
 abbrev empty : ℕ → ℕ → EmptyFact

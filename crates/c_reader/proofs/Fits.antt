@@ -1,10 +1,10 @@
 -- What the tests of the rows show: a row that is chosen is the first that fits.
 use Rattle.std.specs.Prelude.{ℕ, ◌≡◌, true, None, Some, refl}
 use Rattle.predict.specs.Table.{chosen}
-use Rattle.va_grammar.specs.FirstFit.{IsFirstFit, NoneFits}
-use Rattle.va_grammar.proofs.Complete.{all_closed}
-use Rattle.va_grammar.proofs.Sound.{Facts, all_known}
-use Rattle.va_grammar.proofs.Chosen.{table_first_fit, table_none_fits}
+use Rattle.predict.specs.FirstFit.{IsFirstFit, NoneFits}
+use Rattle.predict.proofs.Complete.{all_closed}
+use Rattle.predict.proofs.Sound.{Facts, all_known}
+use Rattle.predict.proofs.Chosen.{table_first_fit, table_none_fits}
 use Rattle.c_tree.specs.Words.{template}
 use Rattle.c_reader.specs.grammar.Names.{class_names, number_names, mark_names, word_names, field_names, kind_names, nonterminal_names}
 use Rattle.c_reader.specs.grammar.Rows.{row_texts, written_rows}

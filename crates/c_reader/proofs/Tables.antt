@@ -10,9 +10,9 @@ use Rattle.std.proofs.lemmas.Option.{slice_get-map, slice_get_within, slice_get-
 use Rattle.predict.specs.declared.symbol.Symbol.{Symbol}
 use Rattle.predict.specs.Rules.{IsRow}
 use Rattle.predict.specs.Table.{Row, symbols_of, chosen, is_among, one_more}
-use Rattle.va_grammar.specs.FirstFit.{Written, IsRowOf, IsFirstFit, NoneFits}
-use Rattle.va_grammar.specs.Sets.{Sets, with_kinds}
-use Rattle.va_grammar.proofs.Lists.{passes_at}
+use Rattle.predict.specs.FirstFit.{Written, IsRowOf, IsFirstFit, NoneFits}
+use Rattle.predict.specs.Sets.{Sets, with_kinds}
+use Rattle.predict.proofs.Lists.{passes_at}
 use Rattle.c_tree.specs.Words.{template}
 use Rattle.c_reader.specs.declared.row_tables.TheConstants.{ROWS}
 use Rattle.c_reader.specs.grammar.Names.{class_names, number_names, mark_names, word_names, field_names, kind_names, nonterminal_names}

@@ -1,7 +1,7 @@
 //! The grammar of C files, as the parser reads it.
 ghost use Rattle.std.specs.Prelude.{◌≡◌, ℕ, ◌<◌, ◌^◌, Some, None, length, map, slice_get};
 ghost use Rattle.predict.specs.Rules.{IsRow};
-ghost use Rattle.va_grammar.specs.FirstFit.{IsFirstFit, IsRowOf, NoneFits};
+ghost use Rattle.predict.specs.FirstFit.{IsFirstFit, IsRowOf, NoneFits};
 ghost use Rattle.c_reader.specs.grammar.Sets.{c_grammar, c_rules, c_table};
 ghost use Rattle.c_reader.specs.grammar.Choices.{kind_place, next_kinds, next_rows, symbol_numbered as symbol_numbered_lem};
 

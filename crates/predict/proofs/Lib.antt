@@ -5,3 +5,7 @@ pub mod Weight
 pub mod Steps
 pub mod Take
 pub mod Text
+pub mod Lists
+pub mod Complete
+pub mod Sound
+pub mod Chosen

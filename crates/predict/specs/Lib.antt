@@ -6,4 +6,6 @@ pub mod Stack
 pub mod Witness
 pub mod Table
 pub mod TableLaws
+pub mod FirstFit
+pub mod Sets
 pub mod Examples

@@ -2,10 +2,10 @@
 use Rattle.std.specs.Prelude.{◌≡◌, ℕ, ◌+◌, suc, zero, List, [], ◌∷◌, ◌++◌, Some, refl, map, slice_get}
 use Rattle.std.proofs.Common.{ap, subst, arith, zero-add}
 use Rattle.predict.specs.Tree.{Tree, node, no_parts, subtree}
-use Rattle.va_grammar.specs.FirstFit.{Written, IsRowOf}
+use Rattle.predict.specs.FirstFit.{Written, IsRowOf}
 use Rattle.va_grammar.specs.Reading.{row_symbols, first_tree, later_trees}
-use Rattle.va_grammar.specs.Rows.{rows}
-use Rattle.va_grammar.specs.Sets.{va_grammar, va_rules}
+use Rattle.va_rows.specs.Rows.{rows}
+use Rattle.va_rows.specs.Sets.{va_grammar, va_rules}
 use Rattle.va_grammar.proofs.SizeLaws.{RowHolds, NamesHold, AllHold}
 use Rattle.va_grammar.specs.SizeRows.{deep_in, modules_in, name_index, bare_declaration}
 use Rattle.va_grammar.specs.SourceOf.{module_of, of_sort, all_of_sort}

@@ -7,13 +7,14 @@ use Rattle.predict.specs.declared.symbol.Symbol.TheVariants.{Kind, Left}
 use Rattle.predict.specs.Sentence.{IsTreeOf, ArePartsOf, first}
 use Rattle.predict.specs.Table.{is_among, symbols_of}
 use Rattle.predict.specs.Tree.{Tree, Parts, node, no_parts, token, subtree, spelling_of}
-use Rattle.va_grammar.specs.FirstFit.{Written, IsRowOf}
+use Rattle.predict.specs.FirstFit.{Written, IsRowOf}
 use Rattle.va_grammar.specs.Reading.{row_symbols, symbols_at, parts_from}
-use Rattle.va_grammar.specs.Rows.{rows}
-use Rattle.va_grammar.specs.Sets.{Sets, va_grammar, va_rules, va_sets, with_kinds}
+use Rattle.va_rows.specs.Rows.{rows}
+use Rattle.predict.specs.Sets.{Sets, with_kinds}
+use Rattle.va_rows.specs.Sets.{va_grammar, va_rules, va_sets}
 use Rattle.va_grammar.specs.SizeScan.{AreDerived}
-use Rattle.va_grammar.proofs.Lists.{implied, at_each, each_told}
-use Rattle.va_grammar.proofs.VaSymbols.{row_written}
+use Rattle.predict.proofs.Lists.{implied, at_each, each_told}
+use Rattle.va_rows.proofs.VaSymbols.{row_written}
 
 same_symbols : (sets : Sets) (all : List Written) (i : ℕ) → symbols_at all i ≡ symbols_of (map (with_kinds sets) all) i
 same_symbols sets [] i = refl

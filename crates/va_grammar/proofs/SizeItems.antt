@@ -5,7 +5,7 @@ use Rattle.predict.specs.Sentence.{IsTreeOf}
 use Rattle.predict.specs.Tree.{Tree, node, no_parts, token, subtree}
 use Rattle.va_base.specs.declared.expanded.Expanded.{Expanded}
 use Rattle.va_grammar.specs.Reading.{row_symbols, first_tree, later_trees}
-use Rattle.va_grammar.specs.Sets.{va_rules}
+use Rattle.va_rows.specs.Sets.{va_rules}
 use Rattle.va_grammar.specs.SizeDeep.{earlier, deep_expression, deep_argument, deep_statement, deep_parts}
 use Rattle.va_grammar.specs.SizeRows.{deep_in, deep_upper, deep_top, bare_declaration}
 use Rattle.va_grammar.proofs.SizeLaws.{RowHolds}

@@ -2,7 +2,7 @@
 use Rattle.std.specs.Prelude.{◌≡◌, ℕ, suc, List, [], ◌∷◌, ◌++◌}
 use Rattle.predict.specs.Tree.{Tree, node}
 use Rattle.va_base.specs.declared.expanded.Expanded.{Expanded}
-use Rattle.va_grammar.specs.FirstFit.{Written}
+use Rattle.predict.specs.FirstFit.{Written}
 use Rattle.va_grammar.specs.Reading.{row_symbols, parts_from}
 use Rattle.va_grammar.specs.SizeDeep.{earlier}
 use Rattle.va_grammar.specs.SizeRows.{links, rule_of, deep_opened, depth_below, depth_last, name_opened, dues, deep_in, deep_due, modules_in, modules_due}

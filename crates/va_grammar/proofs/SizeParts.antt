@@ -5,11 +5,11 @@ use Rattle.std.proofs.Common.{ap, sym, ◌∙◌, subst, arith, Bor}
 use Rattle.std.proofs.lemmas.List.{length-map}
 use Rattle.std.proofs.lemmas.Option.{slice_get-map, slice_get-get_or}
 use Rattle.predict.specs.declared.symbol.Symbol.{Symbol}
-use Rattle.va_grammar.specs.FirstFit.{Written}
+use Rattle.predict.specs.FirstFit.{Written}
 use Rattle.va_grammar.specs.Reading.{row_symbols, symbols_at}
-use Rattle.va_grammar.specs.Rows.{rows}
-use Rattle.va_grammar.specs.declared.rows.Part.{Part}
-use Rattle.va_grammar.proofs.VaSymbols.{written_symbols, symbols_in}
+use Rattle.va_rows.specs.Rows.{rows}
+use Rattle.va_rows.specs.declared.rows.Part.{Part}
+use Rattle.va_rows.proofs.VaSymbols.{written_symbols, symbols_in}
 
 at_written : (all : List Written) (i : ℕ) (symbols : List Symbol) → slice_get (map (λ (row : Written). row.symbols) all) i ≡ Some symbols → symbols ≡ symbols_at all i
 at_written [] i symbols h = cc

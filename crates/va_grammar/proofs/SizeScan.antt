@@ -7,20 +7,20 @@ use Rattle.predict.specs.declared.tree.ParseNode.{ParseNode}
 use Rattle.predict.specs.Sentence.{IsTreeOf, ArePartsOf}
 use Rattle.predict.specs.Tree.{Tree, node}
 use Rattle.va_base.specs.declared.expanded.Expanded.{Expanded}
-use Rattle.va_grammar.specs.FirstFit.{IsRowOf}
-use Rattle.va_grammar.specs.Parts.{symbol_of}
+use Rattle.predict.specs.FirstFit.{IsRowOf}
+use Rattle.va_rows.specs.Parts.{symbol_of}
 use Rattle.va_grammar.specs.Reading.{row_symbols, parts_from, first_tree, later_trees, trees_behind, trees_of}
-use Rattle.va_grammar.specs.Sets.{va_grammar, va_rules}
+use Rattle.va_rows.specs.Sets.{va_grammar, va_rules}
 use Rattle.va_grammar.specs.SizeDeep.{earlier}
 use Rattle.va_grammar.specs.SizeRows.{links, rule_of, deep_opened, depth_below, depth_last, due, dues, name_opened, deep_in, modules_in, deep_due, modules_due}
 use Rattle.va_grammar.specs.SizeScan.{AreDerived, symbols_due, due_parts, SameDue}
 use Rattle.va_grammar.specs.Width.{width, width_of}
-use Rattle.va_grammar.specs.declared.rows.Part.{Part}
+use Rattle.va_rows.specs.declared.rows.Part.{Part}
 use Rattle.va_grammar.specs.declared.size_rules.Due.{Due}
 use Rattle.va_grammar.proofs.SizeAlgebra.{earlier_assoc}
 use Rattle.va_grammar.proofs.SizeAllRows.{row_holds, names_hold}
 use Rattle.va_grammar.proofs.SizeDerived.{symbols_same}
-use Rattle.va_grammar.proofs.VaSymbols.{row_written}
+use Rattle.va_rows.proofs.VaSymbols.{row_written}
 
 pub same_due : (before : List Due) (at : ℕ) → SameDue before at before at
 same_due before at = record { deep = λ e ts. refl; modules = λ e ts. refl; derived = λ ts h. h }

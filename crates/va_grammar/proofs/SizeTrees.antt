@@ -7,9 +7,9 @@ use Rattle.predict.specs.declared.tree.ParseNode.{ParseNode}
 use Rattle.predict.specs.Sentence.{IsTreeOf, ArePartsOf, IsParsed}
 use Rattle.predict.specs.Tree.{Tree, Parts, node, no_parts, token, subtree, nodes, nodes_of}
 use Rattle.va_base.specs.declared.expanded.Expanded.{Expanded}
-use Rattle.va_grammar.specs.Kinds.{kinds_of}
+use Rattle.va_rows.specs.Kinds.{kinds_of}
 use Rattle.va_grammar.specs.Reading.{row_symbols, parts_from, first_tree, trees_behind, trees_of}
-use Rattle.va_grammar.specs.Sets.{va_rules}
+use Rattle.va_rows.specs.Sets.{va_rules}
 use Rattle.va_grammar.specs.SizeDeep.{earlier, first_deep, nodes_from, deep_parts}
 use Rattle.va_grammar.specs.SizeRows.{deep_in, modules_in, name_index}
 use Rattle.va_grammar.specs.SourceOf.{source_of, IsSourceOf}

@@ -1,13 +1,3 @@
-pub mod Terminals
-pub mod Nonterminals
-pub mod Parts
-pub mod Cells
-pub mod FirstFit
-pub mod Rows
-pub mod Sets
-pub mod Evidence
-pub mod VaLaws
-pub mod Kinds
 pub mod TokensAt
 pub mod Width
 pub mod SourceExpressions
@@ -15,6 +5,9 @@ pub mod SourceStatements
 pub mod SourceItems
 pub mod SourceOf
 pub mod Reading
+pub mod StatementHeads
+pub mod AttributeLists
+pub mod Directions
 pub mod SizeDeep
 pub mod SizeRows
 pub mod SizeLinks

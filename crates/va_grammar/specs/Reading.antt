@@ -1,12 +1,18 @@
--- The trees whose nodes, in pre-order, are given: definitions that the contracts of this crate's own functions cite. No public contract
--- names them.
-use Rattle.std.specs.Prelude.{ℕ, zero, suc, List, [], ◌∷◌}
+-- How trees are read from their nodes, row by row: definitions that the contracts of this crate's own functions cite. No public
+-- contract names them.
+use Rattle.std.specs.Prelude.{ℕ, zero, suc, ◌≡◌, ◌+◌, ◌<◌, ◌≤◌, List, [], ◌∷◌, length}
 use Rattle.predict.specs.declared.symbol.Symbol.{Symbol}
 use Rattle.predict.specs.declared.symbol.Symbol.TheVariants.{Kind, Left}
 use Rattle.predict.specs.declared.tree.ParseNode.{ParseNode}
 use Rattle.predict.specs.Tree.{Tree, Parts, node, no_parts, token, subtree}
-use Rattle.va_grammar.specs.FirstFit.{Written}
-use Rattle.va_grammar.specs.Rows.{rows}
+use Rattle.predict.specs.FirstFit.{Written}
+use Rattle.va_rows.specs.Rows.{rows}
+use Rattle.va_grammar.specs.TokensAt.{unary_op, binary_op}
+use Rattle.va_grammar.specs.declared.operators.OperandRow.{OperandRow}
+use Rattle.va_grammar.specs.declared.operators.OperandRow.TheVariants.{Operands, Sign, Unsigned}
+use Rattle.va_grammar.specs.declared.operators.TailRow.{TailRow}
+use Rattle.va_grammar.specs.declared.operators.TailRow.TheVariants.{Operator, End}
+use Rattle.va_grammar.specs.Width.{width}
 
 -- the symbols of the row with this number, among some rows
 abbrev pub symbols_at : List Written → ℕ → List Symbol
@@ -44,3 +50,49 @@ trees_behind (Left left ∷ symbols) ts = trees_behind symbols (later_trees ts)
 abbrev pub trees_of : List ParseNode → List Tree
 trees_of [] = []
 trees_of (n ∷ nodes) = node n.row (parts_from (row_symbols n.row) (trees_of nodes)) ∷ trees_behind (row_symbols n.row) (trees_of nodes)
+
+-- what is left to read: the nodes, and the index of the next token
+pub record Ahead : Type 0 where
+  pub nodes : List ParseNode
+  pub at : ℕ
+
+-- the trees that are left to read
+abbrev pub trees : Ahead → List Tree
+trees a = trees_of a.nodes
+
+-- the next node was taken, of this row; the trees below it come next
+pub record TakesRow (before after : Ahead) (row : ℕ) : Type 0 where
+  pub trees_are : trees before ≡ node row (parts_from (row_symbols row) (trees after)) ∷ trees_behind (row_symbols row) (trees after)
+  pub at_is : after.at ≡ before.at
+  pub fewer : length after.nodes < length before.nodes
+
+-- the next token was passed, of this index
+pub record TakesToken (before after : Ahead) (index : ℕ) : Type 0 where
+  pub index_is : index ≡ before.at
+  pub at_is : after.at ≡ before.at + 1
+  pub nodes_are : after.nodes ≡ before.nodes
+
+-- the next tree was read, and is this
+pub record Reads {X : Type 0} (meaning : ℕ → Tree → X) (before after : Ahead) (value : X) : Type 0 where
+  pub value_is : value ≡ meaning before.at (first_tree (trees before))
+  pub trees_are : trees after ≡ later_trees (trees before)
+  pub at_is : after.at ≡ before.at + width (first_tree (trees before))
+  pub fewer : length after.nodes < length before.nodes
+
+-- A list of trees is being read: what is left means, with what was read, what it all meant before.
+pub record ReadsOn {X : Type 0} (rest all : ℕ → Tree → X) (before now : Ahead) : Type 0 where
+  pub value_is : rest now.at (first_tree (trees now)) ≡ all before.at (first_tree (trees before))
+  pub trees_are : later_trees (trees now) ≡ later_trees (trees before)
+  pub at_is : now.at + width (first_tree (trees now)) ≡ before.at + width (first_tree (trees before))
+  pub fewer : length now.nodes ≤ length before.nodes
+
+-- the symbols of a row of operands: two subtrees; a sign and its operand; or one subtree
+abbrev pub IsOperandRow : ℕ → OperandRow → Type 0
+IsOperandRow row Operands = (a b : ℕ) × (row_symbols row ≡ Left a ∷ Left b ∷ [])
+IsOperandRow row (Sign op) = (k a : ℕ) × (row_symbols row ≡ Kind k ∷ Left a ∷ []) × (unary_op k ≡ op)
+IsOperandRow row Unsigned = (a : ℕ) × (row_symbols row ≡ Left a ∷ [])
+
+-- the symbols of a row of a tail: an operator, its right operand and the rest; or nothing
+abbrev pub IsTailRow : ℕ → TailRow → Type 0
+IsTailRow row (Operator op) = (k a b : ℕ) × (row_symbols row ≡ Kind k ∷ Left a ∷ Left b ∷ []) × (binary_op k ≡ op)
+IsTailRow row End = row_symbols row ≡ []

@@ -20,12 +20,12 @@ use Rattle.va_tree.specs.declared.source.Quantity.TheVariants.{Potential}
 use Rattle.va_tree.specs.Declarations.{if_there}
 use Rattle.va_tree.specs.Expressions.{expression_of}
 use Rattle.va_tree.specs.Parts.{argument_parts, attribute_parts, attributes_parts, nature_parts, discipline_item_parts, discipline_parts, range_parts, parameter_parts, body_parts, item_parts, module_parts}
-use Rattle.va_grammar.specs.declared.nonterminal.Nonterminal.{Nonterminal}
-use Rattle.va_grammar.specs.declared.nonterminal.Nonterminal.TheVariants as left
+use Rattle.va_rows.specs.declared.nonterminal.Nonterminal.{Nonterminal}
+use Rattle.va_rows.specs.declared.nonterminal.Nonterminal.TheVariants as left
 use Rattle.va_grammar.specs.declared.size_rules.Rule.{Rule}
 use Rattle.va_grammar.specs.declared.size_rules.Rule.TheVariants.{Passes, Opens, Chains, Follows, Chooses}
 use Rattle.va_grammar.specs.declared.size_rules.Due.{Due}
-use Rattle.va_grammar.specs.Nonterminals.{nonterminal_number}
+use Rattle.va_rows.specs.Nonterminals.{nonterminal_number}
 use Rattle.va_grammar.specs.Reading.{first_tree, later_trees, trees_of}
 use Rattle.va_grammar.specs.SizeDeep.{earlier, if_deep, deep_row, deep_expression, deep_arguments, deep_argument, deep_values, deep_variables, deep_declarations, deep_statement, deep_statements, deep_else, deep_items, deep_defaults, deep_parts}
 use Rattle.va_grammar.specs.SourceExpressions.{argument, arguments, more_arguments, expression, operand, primary}

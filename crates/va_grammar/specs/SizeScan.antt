@@ -6,11 +6,11 @@ use Rattle.predict.specs.declared.symbol.Symbol.TheVariants.{Kind, Left}
 use Rattle.predict.specs.Sentence.{IsTreeOf}
 use Rattle.predict.specs.Tree.{Tree}
 use Rattle.va_base.specs.declared.expanded.Expanded.{Expanded}
-use Rattle.va_grammar.specs.Parts.{symbol_of}
+use Rattle.va_rows.specs.Parts.{symbol_of}
 use Rattle.va_grammar.specs.Reading.{first_tree, later_trees}
-use Rattle.va_grammar.specs.Sets.{va_rules}
+use Rattle.va_rows.specs.Sets.{va_rules}
 use Rattle.va_grammar.specs.SizeRows.{due, deep_due, modules_due}
-use Rattle.va_grammar.specs.declared.rows.Part.{Part}
+use Rattle.va_rows.specs.declared.rows.Part.{Part}
 use Rattle.va_grammar.specs.declared.size_rules.Due.{Due}
 
 -- the first of the trees are derived from the nonterminals among the symbols

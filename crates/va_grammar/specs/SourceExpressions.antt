@@ -10,7 +10,7 @@ use Rattle.va_tree.specs.declared.expr.Arg.{Arg}
 use Rattle.va_tree.specs.declared.expr.Arg.TheVariants as arg
 use Rattle.va_tree.specs.declared.expr.Expr.{Expr}
 use Rattle.va_tree.specs.declared.expr.Expr.TheVariants.{Inf, Name, Group, Unary, Binary, Choose, Call}
-use Rattle.va_grammar.specs.declared.terminal.Terminal.TheVariants as kind
+use Rattle.va_rows.specs.declared.terminal.Terminal.TheVariants as kind
 use Rattle.va_grammar.specs.TokensAt.{name_at, named, literal_at, is_kind, unary_op, binary_op}
 use Rattle.va_grammar.specs.Width.{width}
 

@@ -20,7 +20,7 @@ use Rattle.va_tree.specs.declared.module.ItemBody.{ItemBody}
 use Rattle.va_tree.specs.declared.module.ItemBody.TheVariants as item
 use Rattle.va_tree.specs.declared.source.Attribute.{Attribute}
 use Rattle.va_tree.specs.declared.source.AttributeGroup.{AttributeGroup}
-use Rattle.va_grammar.specs.declared.terminal.Terminal.TheVariants as kind
+use Rattle.va_rows.specs.declared.terminal.Terminal.TheVariants as kind
 use Rattle.va_grammar.specs.TokensAt.{name_at, named, is_kind}
 use Rattle.va_grammar.specs.SourceExpressions.{argument, expression}
 use Rattle.va_grammar.specs.SourceStatements.{second_node, type_of, variables, statement}

@@ -20,9 +20,9 @@ use Rattle.va_tree.specs.declared.source.Source.{Source}
 use Rattle.va_tree.specs.Size.{LeastSizeFault, IsWithinSize}
 use Rattle.va_base.specs.declared.fault.Fault.{Fault}
 use Rattle.va_base.specs.declared.fault.FaultCode.{FaultCode}
-use Rattle.va_grammar.specs.declared.terminal.Terminal.TheVariants as kind
-use Rattle.va_grammar.specs.Kinds.{kinds_of}
-use Rattle.va_grammar.specs.Sets.{va_rules}
+use Rattle.va_rows.specs.declared.terminal.Terminal.TheVariants as kind
+use Rattle.va_rows.specs.Kinds.{kinds_of}
+use Rattle.va_rows.specs.Sets.{va_rules}
 use Rattle.va_grammar.specs.TokensAt.{name_at, named, is_kind}
 use Rattle.va_grammar.specs.SourceExpressions.{argument}
 use Rattle.va_grammar.specs.SourceItems.{attribute_groups, more_names, item_body}
@@ -97,9 +97,14 @@ abbrev pub module_of : Expanded → List AttributeGroup → ℕ → Tree → Lis
 module_of e attributes at (node row (token module_ (token name (subtree list (token semicolon (subtree inner (token endmodule no_parts))))))) = (let m : Module = record { attributes = attributes; at = at + 1; name = name_at e (at + 1); ports = ports e (at + 2) list; items = items e (at + 2 + width list + 1) inner } in m ∷ [])
 module_of e attributes at others = []
 
--- TopItem and TopItemBody: attributes, and a nature, a discipline or a module, of which those of one sort are taken
+-- TopItemBody: a nature, a discipline or a module, of which those of one sort are taken. The attributes before it come first.
+abbrev pub body_of_sort : {X : Type 0} → (Expanded → List AttributeGroup → ℕ → Tree → List X) → Expanded → List AttributeGroup → ℕ → Tree → List X
+body_of_sort sort e attributes at (node row (subtree declaration no_parts)) = sort e attributes at declaration
+body_of_sort sort e attributes at others = []
+
+-- TopItem: attributes, and what they belong to
 abbrev pub of_sort : {X : Type 0} → (Expanded → List AttributeGroup → ℕ → Tree → List X) → Expanded → ℕ → Tree → List X
-of_sort sort e at (node row (subtree attributes (subtree (node row' (subtree declaration no_parts)) no_parts))) = sort e (attribute_groups e at attributes) (at + width attributes) declaration
+of_sort sort e at (node row (subtree attributes (subtree body no_parts))) = body_of_sort sort e (attribute_groups e at attributes) (at + width attributes) body
 of_sort sort e at others = []
 
 -- Source: one, and the rest

@@ -16,7 +16,7 @@ use Rattle.va_tree.specs.declared.stmt.CaseItem.{CaseItem}
 use Rattle.va_tree.specs.declared.stmt.CaseDefault.{CaseDefault}
 use Rattle.va_tree.specs.declared.stmt.Stmt.{Stmt}
 use Rattle.va_tree.specs.declared.stmt.Stmt.TheVariants.{Null, Block, If, Case, For, While, Repeat, Event, Assign, Contribute, Task}
-use Rattle.va_grammar.specs.declared.terminal.Terminal.TheVariants as kind
+use Rattle.va_rows.specs.declared.terminal.Terminal.TheVariants as kind
 use Rattle.va_grammar.specs.TokensAt.{name_at, named, is_kind}
 use Rattle.va_grammar.specs.SourceExpressions.{arguments, expression}
 use Rattle.va_grammar.specs.Width.{width}

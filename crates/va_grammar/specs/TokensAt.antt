@@ -16,9 +16,9 @@ use Rattle.va_tree.specs.declared.expr.BinaryOp.TheVariants as binary
 use Rattle.va_tree.specs.declared.expr.Expr.{Expr}
 use Rattle.va_tree.specs.declared.expr.Expr.TheVariants.{Literal}
 use Rattle.va_tree.specs.declared.name.NameAt.{NameAt}
-use Rattle.va_grammar.specs.Terminals.{terminal_number}
-use Rattle.va_grammar.specs.declared.terminal.Terminal.{Terminal}
-use Rattle.va_grammar.specs.declared.terminal.Terminal.TheVariants as kind
+use Rattle.va_rows.specs.Terminals.{terminal_number}
+use Rattle.va_rows.specs.declared.terminal.Terminal.{Terminal}
+use Rattle.va_rows.specs.declared.terminal.Terminal.TheVariants as kind
 
 -- a word without the `\` of its escaped form
 abbrev pub word_name : List ℕ → List ℕ

@@ -1,23 +1,29 @@
-//! The grammar of Verilog-A, and the limits of size of the texts that it spells.
+//! From the parse tree of a text to its source tree, and the limits of size of the texts that the grammar of Verilog-A spells.
 #![tactic(auto)]
 
-pub mod nonterminal;
-pub mod row;
-pub mod row_at;
-pub mod rows;
+mod attributes;
+mod disciplines;
+mod done;
+mod functions;
+mod item_bodies;
+mod modules;
+mod name_lists;
+mod natures;
+mod operators;
+mod parameters;
+mod ranges;
+mod read_expressions;
+mod read_names;
+mod read_source;
+mod read_statements;
+mod reader;
 mod size;
 mod size_links;
 mod size_rules;
 mod size_scan;
-pub mod terminal;
-pub mod token_kinds;
-pub mod va_rows;
+pub mod source;
+mod statement_heads;
+mod statement_parts;
 
-pub use nonterminal::Nonterminal;
-pub use size::size_fault;
-pub use terminal::Terminal;
-pub use token_kinds::kinds;
-pub use va_rows::VaRows;
-
-#[cfg(test)]
-mod tests;
+pub use source::{TreeErr, build};
+pub use va_rows::{VaRows, kinds};

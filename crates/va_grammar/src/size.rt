@@ -7,8 +7,8 @@ ghost use Rattle.std.specs.Prelude.{◌≡◌, nat_lt, Some, None, Ok, IfOk};
 ghost use Rattle.predict.specs.Sentence.{IsParsed};
 ghost use Rattle.va_base.specs.Expansion.{IsExpanded};
 ghost use Rattle.va_base.specs.declared.fault.Fault.{Fault};
-ghost use Rattle.va_grammar.specs.Kinds.{kinds_of};
-ghost use Rattle.va_grammar.specs.Sets.{va_rules};
+ghost use Rattle.va_rows.specs.Kinds.{kinds_of};
+ghost use Rattle.va_rows.specs.Sets.{va_rules};
 ghost use Rattle.va_grammar.specs.SizeFaults.{is_long, IsFirst, IsLong, IsFaultAt, sooner as sooner_lem, first_of, earliest as earliest_lem};
 ghost use Rattle.va_grammar.specs.SourceOf.{IsSourceOf};
 ghost use Rattle.va_tree.specs.Size.{word_len as word_len_lem, counted_len as counted_len_lem, LeastSizeFault, IsWithinSize};
@@ -24,7 +24,11 @@ const LONGEST: usize = 1024;
 
 /// The least fault of size that stands in a text, or None where none stands: the one at the lowest token, and of several at one
 /// token TooDeep before TooLong before ModulesMany.
-pub fn size_fault(alloc: Global, tree: &ParseTree, e: &Expanded) -> Result<Option<Fault>, NoMemory>
+pub(crate) fn size_fault(
+    alloc: Global,
+    tree: &ParseTree,
+    e: &Expanded,
+) -> Result<Option<Fault>, NoMemory>
     requires expanded { IsExpanded e.now }
     requires parsed { IsParsed va_rules (kinds_of e.now) tree.now }
     ensures fault { (f : Fault) → result ≡ Ok (Some f) → (s : Source) → IsSourceOf e.now s → LeastSizeFault e.now s f }
@@ -147,6 +151,3 @@ fn word_len(bytes: &[u8]) -> usize
         _ => bytes.len(),
     }
 }
-
-#[cfg(test)]
-mod tests;

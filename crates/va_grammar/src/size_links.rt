@@ -1,15 +1,15 @@
 //! How many operators stand behind each operand, read from the last node of a parse tree to the first.
 ghost use Rattle.std.specs.Prelude.{◌≡◌, [], ◌∷◌, reverse, get_or, map, IfOk, OnOk};
-ghost use Rattle.va_grammar.specs.Parts.{symbol_of};
+ghost use Rattle.va_rows.specs.Parts.{symbol_of};
 ghost use Rattle.va_grammar.specs.Reading.{row_symbols};
 ghost use Rattle.va_grammar.specs.SizeRows.{links_of};
 ghost use Rattle.va_grammar.specs.SizeLinks.{has_token as has_token_lem, has_rule as has_rule_lem, is_pair as is_pair_lem, is_operator as is_operator_lem, is_choice as is_choice_lem, no_tail, tail_here as tail_here_lem, link_here as link_here_lem, tails_behind};
 
-use crate::row;
-use crate::rows::Part;
 use crate::size_rules::row_parts;
 use predict::ParseNode;
 use std::alloc::{AllocError, Global};
+use va_rows::row;
+use va_rows::rows::Part;
 
 /// What a tree is to the operand before it.
 #[derive(Clone, Copy, Debug, PartialEq, Eq)]

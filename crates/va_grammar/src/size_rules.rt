@@ -1,15 +1,15 @@
 //! What a row of the grammar does to the depth of what stands in it.
 ghost use Rattle.std.specs.Prelude.{◌≡◌, map, IfOk};
-ghost use Rattle.va_grammar.specs.Parts.{symbol_of};
+ghost use Rattle.va_rows.specs.Parts.{symbol_of};
 ghost use Rattle.va_grammar.specs.Reading.{row_symbols};
 ghost use Rattle.va_grammar.specs.SizeDeep.{if_deep, deep_row};
 ghost use Rattle.va_grammar.specs.SizeRows.{does_open, does_chain, does_follow, rule_of, deep_opened, depth_below as depth_below_lem, depth_last as depth_last_lem};
 
-use crate::nonterminal::Nonterminal as N;
-use crate::row;
-use crate::rows::{Part, ROWS};
 use predict::Symbol;
 use std::alloc::AllocError;
+use va_rows::nonterminal::Nonterminal as N;
+use va_rows::row;
+use va_rows::rows::{Part, ROWS};
 
 /// The depth that no node may have.
 const TOO_DEEP: u32 = 501;

@@ -5,18 +5,18 @@
 ghost use Rattle.std.specs.Prelude.{◌≡◌, ℕ, [], ◌∷◌, ◌++◌, List, map, reverse, slice_get, IfOk, OnOk, MatchOption};
 ghost use Rattle.predict.specs.declared.symbol.Symbol.TheVariants.{Left};
 ghost use Rattle.va_base.specs.declared.expanded.Expanded.{Expanded};
-ghost use Rattle.va_grammar.specs.Parts.{symbol_of};
+ghost use Rattle.va_rows.specs.Parts.{symbol_of};
 ghost use Rattle.va_grammar.specs.Reading.{row_symbols, trees_of, first_tree};
 ghost use Rattle.va_grammar.specs.SizeDeep.{earlier};
 ghost use Rattle.va_grammar.specs.SizeRows.{rule_of, depth_below as depth_below_lem, depth_last as depth_last_lem, due as due_lem, dues, name_opened, deep_in, modules_in};
 ghost use Rattle.va_grammar.specs.SizeScan.{AreDerived, many, NothingDue, ComesNext, due_parts};
 
-use crate::nonterminal::Nonterminal;
-use crate::rows::Part;
 use crate::size_links::tree_links;
 use crate::size_rules::{Due, depth_below, depth_last, opened, row_parts, row_rule};
 use predict::{ParseNode, Symbol};
 use std::alloc::{AllocError, Global};
+use va_rows::nonterminal::Nonterminal;
+use va_rows::rows::Part;
 
 /// How many modules a text may have.
 const MODULES: u32 = 64;

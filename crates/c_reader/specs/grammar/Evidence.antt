@@ -4,7 +4,7 @@ use Rattle.predict.specs.declared.symbol.Symbol.{Symbol}
 use Rattle.predict.specs.declared.symbol.Symbol.TheVariants.{Kind, Left}
 use Rattle.predict.specs.Tree.{Tree, Parts, node, no_parts, token, subtree}
 use Rattle.predict.specs.Table.{Evidence, symbols_of}
-use Rattle.va_grammar.specs.Sets.{is_empty}
+use Rattle.predict.specs.Sets.{is_empty}
 use Rattle.c_reader.specs.grammar.Sets.{c_sets, c_table, kinds}
 
 -- a number for each nonterminal, which falls from a row's left side to what the row may begin with

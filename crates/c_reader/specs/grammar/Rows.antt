@@ -7,7 +7,7 @@ use Rattle.std.specs.Str.{bytes_eq}
 use Rattle.predict.specs.declared.symbol.Symbol.{Symbol}
 use Rattle.predict.specs.declared.symbol.Symbol.TheVariants.{Kind, Left}
 use Rattle.c_tree.specs.Words.{Word, template}
-use Rattle.va_grammar.specs.FirstFit.{Written}
+use Rattle.predict.specs.FirstFit.{Written}
 use Rattle.c_reader.specs.grammar.Names.{kind_names, nonterminal_names, place_of}
 
 unfoldable pub row_texts : List (List ℕ)

@@ -5,8 +5,8 @@ use Rattle.std.specs.Option.{unwrap_or}
 use Rattle.predict.specs.Rules.{Rules}
 use Rattle.predict.specs.Table.{Table, rules_of}
 use Rattle.c_tree.specs.Words.{template}
-use Rattle.va_grammar.specs.FirstFit.{WrittenGrammar}
-use Rattle.va_grammar.specs.Sets.{Sets, with_kinds}
+use Rattle.predict.specs.FirstFit.{WrittenGrammar}
+use Rattle.predict.specs.Sets.{Sets, with_kinds}
 use Rattle.c_reader.specs.grammar.Names.{kind_names, place_of}
 use Rattle.c_reader.specs.grammar.Rows.{written_rows}
 

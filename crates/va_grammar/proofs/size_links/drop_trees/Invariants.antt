@@ -1,5 +1,5 @@
 use Rattle.std.specs.Prelude.{◌≡◌, reverse, drop, map}
-use Rattle.va_grammar.specs.Parts.{symbol_of}
+use Rattle.va_rows.specs.Parts.{symbol_of}
 use Rattle.va_grammar.specs.SizeLinks.{tails_behind}
 use Rattle.va_grammar.proofs.size_links.drop_trees.Given as goal
 

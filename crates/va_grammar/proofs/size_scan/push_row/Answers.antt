@@ -1,9 +1,9 @@
 use Rattle.std.specs.Prelude.{List, map, reverse, ◌++◌}
 use Rattle.std.proofs.Common.{ap, sym, ◌∙◌}
-use Rattle.va_grammar.specs.Parts.{symbol_of}
+use Rattle.va_rows.specs.Parts.{symbol_of}
 use Rattle.va_grammar.specs.SizeRows.{dues}
 use Rattle.va_grammar.specs.SizeScan.{due_parts}
-use Rattle.va_grammar.specs.declared.rows.Part.{Part}
+use Rattle.va_rows.specs.declared.rows.Part.{Part}
 use Rattle.va_grammar.specs.declared.size_rules.Due.{Due}
 use Rattle.va_grammar.proofs.SizeScan.{dues_pushed}
 use Rattle.va_grammar.proofs.size_scan.push_row.Goals as goal

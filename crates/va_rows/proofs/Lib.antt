@@ -1,0 +1,5 @@
+pub mod Facts
+pub mod VaFits
+pub mod Entries
+pub mod VaSymbols
+pub mod KindsEnd
