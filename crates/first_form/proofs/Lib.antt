@@ -1,7 +1,5 @@
-pub mod Loops
-pub mod Lowering
 pub mod Named
 pub mod Params
-pub mod Reserved
-pub mod Unique
-pub mod Whole
+pub mod Shapes
+pub mod Flows
+pub mod Lowering

@@ -1,6 +1,7 @@
 -- The straight code of a form gives the values of its residuals, so that a module of that code loads them.
-use Rattle.std.proofs.Common.{◌≡◌, ◌≢◌, ◌<◌, ◌≤◌, ℕ, List, [], ◌∷◌, ◌++◌, refl, ap, sym, ◌∙◌, arith}
+use Rattle.std.proofs.Common.{◌≡◌, ◌≢◌, ◌<◌, ◌≤◌, ℕ, List, [], ◌∷◌, ◌++◌, refl, ap, sym, ◌∙◌, subst, arith}
 use Rattle.std.specs.Prelude.{Bool, true, false, ◌==◌, if◌then◌else◌}
+use Rattle.std.proofs.lemmas.Bool.{false≢true}
 use Rattle.std.proofs.lemmas.Bool.Decides.{nat_tests}
 use Rattle.alg_laws.specs.Operations.{Operations, IsAlgebra}
 use Rattle.alg_laws.specs.AtFour.{AtFour, at_four}
@@ -16,11 +17,12 @@ use Rattle.c_tree.specs.declared.short.ShortModule.{ShortModule}
 use Rattle.c_tree.specs.short.Machine.{Values, Cells, with_value, operate, atom_value, right_value, evaluated}
 use Rattle.c_tree.specs.short.Run.{AreValid, params_of, LoadsRows}
 use Rattle.c_tree.proofs.Runs.{row_list, SetsRows, SetsRows-loads}
-use Rattle.first_form.specs.Form.{Sum, sum, Terms, no_term, plus, minus, Term, term, Factors, no_factor, times, over}
-use Rattle.first_form.specs.Form.{Factor, parameter, potential, group, FirstForm, names_of}
-use Rattle.first_form.specs.Residuals.{number_in, sum_value, terms_value, term_value, factors_value, factor_value, residuals}
-use Rattle.first_form.specs.Code.{Code, joined, sum_code, terms_code, term_code, factors_code, factor_code}
-use Rattle.first_form.specs.Code.{form_statements, form_loads}
+use Rattle.va_tree.specs.declared.expr.BinaryOp.{BinaryOp}
+use Rattle.va_tree.specs.declared.expr.BinaryOp.TheVariants.{Or, And, Equal, NotEqual, Less, AtMost, Greater, AtLeast, Add, Subtract, Multiply, Divide, Remainder, Power}
+use Rattle.va_tree.specs.Expressions.{Expression, literal, infinity, name, group, unary, binary, choose, call}
+use Rattle.first_form.specs.Form.{FirstForm, is_arithmetic, IsSum}
+use Rattle.first_form.specs.Residuals.{number_in, combined, sum_value, residuals}
+use Rattle.first_form.specs.Code.{Code, joined, operator_of, sum_code, form_statements, form_loads}
 
 -- declarations alone
 abbrev pub Declares : List Statement → Type 0
@@ -54,7 +56,7 @@ at_other {V} v at i x h = by_test (i == at) (grind (arith, nat_tests))
 
 -- the value of a parameter of this name
 abbrev pub param_of : {V : Type 0} → List (List ℕ) → Cells V → List ℕ → V
-param_of names cells name = params_of cells (number_in names name)
+param_of names cells bytes = params_of cells (number_in names bytes)
 
 -- the potential of the branch between the ports
 abbrev pub voltage_of : {V : Type 0} → Operations V → Values V → V
@@ -154,119 +156,104 @@ module _ {V : Type 0} (o : Operations V) (cells : Cells V) (unknowns : Values V)
   flow-keeps flow v locals g i =
       ap (λ end. end (Param i)) (evaluated-declares flow.statements (ending flow) locals g.declares)
 
-  -- The code of each part of a sum over these names gives its value: by induction on the parts, with the code so far.
-  module _ (names : List (List ℕ)) where
-    abbrev value_sum : Sum → V
-    value_sum = sum_value o (param_of names cells) (voltage_of o unknowns)
+  -- the operator of the C file does what that of the form does
+  operator-same : (op : BinaryOp) (x y : V) → is_arithmetic op ≡ true → operate o (operator_of op) x y ≡ combined o op x y
+  operator-same Add x y e = refl
+  operator-same Subtract x y e = refl
+  operator-same Multiply x y e = refl
+  operator-same Divide x y e = refl
+  operator-same Or x y e = absurd (false≢true e)
+  operator-same And x y e = absurd (false≢true e)
+  operator-same Equal x y e = absurd (false≢true e)
+  operator-same NotEqual x y e = absurd (false≢true e)
+  operator-same Less x y e = absurd (false≢true e)
+  operator-same AtMost x y e = absurd (false≢true e)
+  operator-same Greater x y e = absurd (false≢true e)
+  operator-same AtLeast x y e = absurd (false≢true e)
+  operator-same Remainder x y e = absurd (false≢true e)
+  operator-same Power x y e = absurd (false≢true e)
 
-    abbrev value_terms : V → Terms → V
-    value_terms = terms_value o (param_of names cells) (voltage_of o unknowns)
+  -- The code of an expression of the form over these names gives its value: by induction on the expression.
+  module _ (first second : List ℕ) (names : List (List ℕ)) where
+    abbrev value : Expression → V
+    value = sum_value o (param_of names cells) (voltage_of o unknowns)
 
-    abbrev value_term : Term → V
-    value_term = term_value o (param_of names cells) (voltage_of o unknowns)
+    sum-gives : (e : Expression) (next : ℕ) → IsSum first second names e → Gives (sum_code names e next) next (value e)
+    sum-gives (name at bytes) next s = record {
+      declares = tt;
+      grows = omega arith;
+      below = tt;
+      value = λ locals. refl;
+      keeps = λ locals i lt. refl;
+    }
+    sum-gives (group at inner) next s = sum-gives inner next s
+    sum-gives (binary at left op right) next s =
+        let code = sum_code names left next in
+        let P : V → Type 0 = λ v. Gives (joined code (operator_of op) (sum_code names right code.next)) next v in
+        subst P (operator-same op (value left) (value right) s.0)
+        (joined-gives code (sum_code names right code.next) (operator_of op) next (value left) (value right)
+        (sum-gives left next s.1) (sum-gives right code.next s.2))
+    sum-gives (call at callee access args) next s = record {
+      declares = tt;
+      grows = omega arith;
+      below = omega arith;
+      value = λ locals. at_same locals next (voltage_of o unknowns);
+      keeps = λ locals i lt. at_other locals next i (voltage_of o unknowns) (omega arith);
+    }
+    sum-gives (literal at number integer) next s = absurd s
+    sum-gives (infinity at) next s = absurd s
+    sum-gives (unary at op operand) next s = absurd s
+    sum-gives (choose at test a b) next s = absurd s
 
-    abbrev value_factors : V → Factors → V
-    value_factors = factors_value o (param_of names cells) (voltage_of o unknowns)
+-- an operator between valid values gives a valid one
+combined-valid : {V : Type 0} (o : Operations V) (valid unit : V → Type 0) → IsAlgebra o valid unit → (op : BinaryOp) (x y : V)
+    → valid x → valid y → valid (combined o op x y)
+combined-valid o valid unit l Add x y h k = l.valid_sum x y h k
+combined-valid o valid unit l Subtract x y h k = l.valid_sum x (o.negative y) h (l.valid_negative y k)
+combined-valid o valid unit l Multiply x y h k = l.valid_product x y h k
+combined-valid o valid unit l Divide x y h k = l.valid_product x (o.recip y) h (l.valid_recip y k)
+combined-valid o valid unit l Or x y h k = l.valid_zero
+combined-valid o valid unit l And x y h k = l.valid_zero
+combined-valid o valid unit l Equal x y h k = l.valid_zero
+combined-valid o valid unit l NotEqual x y h k = l.valid_zero
+combined-valid o valid unit l Less x y h k = l.valid_zero
+combined-valid o valid unit l AtMost x y h k = l.valid_zero
+combined-valid o valid unit l Greater x y h k = l.valid_zero
+combined-valid o valid unit l AtLeast x y h k = l.valid_zero
+combined-valid o valid unit l Remainder x y h k = l.valid_zero
+combined-valid o valid unit l Power x y h k = l.valid_zero
 
-    abbrev value_factor : Factor → V
-    value_factor = factor_value o (param_of names cells) (voltage_of o unknowns)
-
-    mutual
-      sum-gives : (s : Sum) (next : ℕ) → Gives (sum_code names s next) next (value_sum s)
-      sum-gives (sum t ts) next = terms-gives ts (term_code names t next) next (value_term t) (term-gives t next)
-
-      terms-gives : (ts : Terms) (code : Code) (next : ℕ) (v : V) → Gives code next v
-          → Gives (terms_code names code ts) next (value_terms v ts)
-      terms-gives no_term code next v h = h
-      terms-gives (plus t ts) code next v h =
-          let right = term_code names t code.next in
-          terms-gives ts (joined code Plus right) next (o.sum v (value_term t))
-          (joined-gives code right Plus next v (value_term t) h (term-gives t code.next))
-      terms-gives (minus t ts) code next v h =
-          let right = term_code names t code.next in
-          terms-gives ts (joined code Minus right) next (o.sum v (o.negative (value_term t)))
-          (joined-gives code right Minus next v (value_term t) h (term-gives t code.next))
-
-      term-gives : (t : Term) (next : ℕ) → Gives (term_code names t next) next (value_term t)
-      term-gives (term f fs) next = factors-gives fs (factor_code names f next) next (value_factor f) (factor-gives f next)
-
-      factors-gives : (fs : Factors) (code : Code) (next : ℕ) (v : V) → Gives code next v
-          → Gives (factors_code names code fs) next (value_factors v fs)
-      factors-gives no_factor code next v h = h
-      factors-gives (times f fs) code next v h =
-          let right = factor_code names f code.next in
-          factors-gives fs (joined code Times right) next (o.product v (value_factor f))
-          (joined-gives code right Times next v (value_factor f) h (factor-gives f code.next))
-      factors-gives (over f fs) code next v h =
-          let right = factor_code names f code.next in
-          factors-gives fs (joined code Over right) next (o.product v (o.recip (value_factor f)))
-          (joined-gives code right Over next v (value_factor f) h (factor-gives f code.next))
-
-      factor-gives : (f : Factor) (next : ℕ) → Gives (factor_code names f next) next (value_factor f)
-      factor-gives (parameter name) next = record {
-        declares = tt;
-        grows = omega arith;
-        below = tt;
-        value = λ locals. refl;
-        keeps = λ locals i lt. refl;
-      }
-      factor-gives potential next = record {
-        declares = tt;
-        grows = omega arith;
-        below = omega arith;
-        value = λ locals. at_same locals next (voltage_of o unknowns);
-        keeps = λ locals i lt. at_other locals next i (voltage_of o unknowns) (omega arith);
-      }
-      factor-gives (group s) next = sum-gives s next
-
--- sums of valid values are valid
+-- expressions over valid values have valid ones
 module _ {V : Type 0} (o : Operations V) (valid unit : V → Type 0) (l : IsAlgebra o valid unit)
     (param : List ℕ → V) (voltage : V)
-    (params_valid : (name : List ℕ) → valid (param name)) (voltage_valid : valid voltage) where
-  mutual
-    pub sum-valid : (s : Sum) → valid (sum_value o param voltage s)
-    sum-valid (sum t ts) = terms-valid ts (term_value o param voltage t) (term-valid t)
-
-    terms-valid : (ts : Terms) (v : V) → valid v → valid (terms_value o param voltage v ts)
-    terms-valid no_term v h = h
-    terms-valid (plus t ts) v h =
-        terms-valid ts (o.sum v (term_value o param voltage t)) (l.valid_sum v (term_value o param voltage t) h (term-valid t))
-    terms-valid (minus t ts) v h =
-        let w = term_value o param voltage t in
-        terms-valid ts (o.sum v (o.negative w)) (l.valid_sum v (o.negative w) h (l.valid_negative w (term-valid t)))
-
-    term-valid : (t : Term) → valid (term_value o param voltage t)
-    term-valid (term f fs) = factors-valid fs (factor_value o param voltage f) (factor-valid f)
-
-    factors-valid : (fs : Factors) (v : V) → valid v → valid (factors_value o param voltage v fs)
-    factors-valid no_factor v h = h
-    factors-valid (times f fs) v h =
-        let w = factor_value o param voltage f in
-        factors-valid fs (o.product v w) (l.valid_product v w h (factor-valid f))
-    factors-valid (over f fs) v h =
-        let w = factor_value o param voltage f in
-        factors-valid fs (o.product v (o.recip w)) (l.valid_product v (o.recip w) h (l.valid_recip w (factor-valid f)))
-
-    factor-valid : (f : Factor) → valid (factor_value o param voltage f)
-    factor-valid (parameter name) = params_valid name
-    factor-valid potential = voltage_valid
-    factor-valid (group s) = sum-valid s
+    (params_valid : (bytes : List ℕ) → valid (param bytes)) (voltage_valid : valid voltage) where
+  pub sum-valid : (e : Expression) → valid (sum_value o param voltage e)
+  sum-valid (name at bytes) = params_valid bytes
+  sum-valid (group at inner) = sum-valid inner
+  sum-valid (binary at left op right) =
+      combined-valid o valid unit l op (sum_value o param voltage left) (sum_value o param voltage right) (sum-valid left) (sum-valid right)
+  sum-valid (call at callee access args) = voltage_valid
+  sum-valid (literal at number integer) = l.valid_zero
+  sum-valid (infinity at) = l.valid_zero
+  sum-valid (unary at op operand) = l.valid_zero
+  sum-valid (choose at test a b) = l.valid_zero
 
 -- A module of the code of a form sets the form's residuals, so its runs load them.
 module _ {V : Type 0} (o : Operations V) (valid unit : V → Type 0) (l : IsAlgebra o valid unit)
-    (form : FirstForm) (tree : ShortModule) (eval : tree.eval ≡ form_statements form) (loads : tree.loads ≡ form_loads) where
+    (form : FirstForm) (is : IsSum form.first form.second form.params form.flow) (tree : ShortModule)
+    (eval : tree.eval ≡ form_statements form) (loads : tree.loads ≡ form_loads) where
   abbrev flow : Code
-  flow = sum_code (names_of form) form.flow 0
+  flow = sum_code form.params form.flow 0
 
   flow-gives : (cells : Cells V) (unknowns : Values V)
-      → Gives o cells unknowns flow 0 (sum_value o (param_of (names_of form) cells) (voltage_of o unknowns) form.flow)
-  flow-gives cells unknowns = sum-gives o cells unknowns (names_of form) form.flow 0
+      → Gives o cells unknowns flow 0 (sum_value o (param_of form.params cells) (voltage_of o unknowns) form.flow)
+  flow-gives cells unknowns = sum-gives o cells unknowns form.first form.second form.params form.flow 0 is
 
   flow-valid : (cells : Cells V) (unknowns : Values V) → AreValid valid (params_of cells) → AreValid valid unknowns
-      → valid (sum_value o (param_of (names_of form) cells) (voltage_of o unknowns) form.flow)
+      → valid (sum_value o (param_of form.params cells) (voltage_of o unknowns) form.flow)
   flow-valid cells unknowns p u =
-      sum-valid o valid unit l (param_of (names_of form) cells) (voltage_of o unknowns)
-      (λ name. p (number_in (names_of form) name))
+      sum-valid o valid unit l (param_of form.params cells) (voltage_of o unknowns)
+      (λ bytes. p (number_in form.params bytes))
       (l.valid_sum (unknowns 0) (o.negative (unknowns 1)) (u 0) (l.valid_negative (unknowns 1) (u 1))) form.flow
 
   sets_residuals : SetsRows tree (residuals form) 2 o valid
@@ -287,7 +274,7 @@ module _ {V : Type 0} (o : Operations V) (valid unit : V → Type 0) (l : IsAlge
 
 -- the same at the four algebras, as the contract of the translation says it
 pub loads_at_four : {V : Type 0} (o : Operations V) (valid unit : V → Type 0) → IsAlgebra o valid unit
-    → (form : FirstForm) (tree : ShortModule) → tree.eval ≡ form_statements form → tree.loads ≡ form_loads
+    → (form : FirstForm) → IsSum form.first form.second form.params form.flow → (tree : ShortModule) → tree.eval ≡ form_statements form → tree.loads ≡ form_loads
     → AtFour o valid (LoadsRows tree (residuals form))
-loads_at_four o valid unit l form tree eval loads =
-    at_four o valid unit l (LoadsRows tree (residuals form)) (λ D e v u k. loads_residuals e v u k form tree eval loads)
+loads_at_four o valid unit l form is tree eval loads =
+    at_four o valid unit l (LoadsRows tree (residuals form)) (λ D e v u k. loads_residuals e v u k form is tree eval loads)

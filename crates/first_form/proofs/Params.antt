@@ -1,15 +1,43 @@
--- Declarations of parameters: their tokens, and their names, which are distinct.
-use Rattle.std.proofs.Common.{◌≡◌, ◌≤◌, ◌⊎◌, inl, inr, ℕ, zero, suc, List, [], ◌∷◌, ◌++◌, map, length, refl, ap, sym, ◌∙◌, subst, arith}
-use Rattle.std.specs.Prelude.{codes, Contains, Bool, true, false}
-use Rattle.std.specs.List.{IsDistinct, AllByRecursion}
+-- The names of parameters, which are distinct.
+use Rattle.std.proofs.Common.{◌≡◌, ◌≤◌, ◌<◌, ◌+◌, ◌⊎◌, inl, inr, ℕ, zero, suc, List, [], ◌∷◌, ◌++◌, map, length, take, get_or, refl, ap, sym, ◌∙◌, subst, arith}
+use Rattle.std.specs.Prelude.{Contains, Bool, true, false, ◌&&◌, Some, None, Option}
+use Rattle.std.specs.List.{IsDistinct, AllByRecursion, list_all, list_any}
+use Rattle.std.specs.Cmp.Lexicographic.{nat_list_eq_equiv}
 use Rattle.std.specs.Str.{bytes_eq}
+use Rattle.std.proofs.Math.Seq.{take-suc}
 use Rattle.std.proofs.lemmas.Bool.{false≢true}
-use Rattle.std.proofs.lemmas.List.{map-append, length-map, length-append, append-nil}
+use Rattle.std.proofs.lemmas.List.{map-append, length-map, length-append}
+use Rattle.std.proofs.lemmas.List.Folds.{list_all-append}
 use Rattle.std.proofs.lemmas.List.Elements.{Contains-append_right}
+use Rattle.std.proofs.lemmas.Map.Views.{list_any-from_Contains}
 use Rattle.std.proofs.lemmas.Slice.Eq.{bytes_eq-Decides}
-use Rattle.first_form.specs.Form.{Parameter, params_tokens, AreParameters, IsName}
-use Rattle.first_form.specs.Reading.{NextIsNot, declared_names, IsParameter, ReadsParameter, IsParams, ReadsParams, AreNames}
-use Rattle.first_form.proofs.Unique.{rest_of, first_of_tokens, ends-not}
+use Rattle.va_tree.specs.declared.module.Item.{Item}
+use Rattle.first_form.specs.Form.{parameter_name, AreNamed, is_free}
+use Rattle.first_form.specs.Reading.{MayFollow, AddsName, HasNames}
+
+-- what an option holds, and another value where it holds none
+abbrev or_else : {X : Type 0} → X → Option X → X
+or_else d None = d
+or_else d (Some x) = x
+
+pub some-injective : {X : Type 0} (a b : X) → Some a ≡ Some b → a ≡ b
+some-injective a b e = ap (or_else a) e
+
+pub and-left : (a b : Bool) → (a && b) ≡ true → a ≡ true
+and-left true b e = refl
+and-left false b e = e
+
+pub and-right : (a b : Bool) → (a && b) ≡ true → b ≡ true
+and-right true b e = e
+and-right false b e = absurd (false≢true e)
+
+pub and-both : (a b : Bool) → a ≡ true → b ≡ true → (a && b) ≡ true
+and-both true b e f = f
+and-both false b e f = e
+
+-- a name that a test finds among none of some
+pub not-contained : (name : List ℕ) (names : List (List ℕ)) → list_any (bytes_eq name) names ≡ false → Contains names name → ⊥
+not-contained name names e h = false≢true (sym e ∙ list_any-from_Contains {eq = bytes_eq} nat_list_eq_equiv name names h)
 
 -- names that a test tells apart
 not-same : (x y : List ℕ) (b : Bool) → b ≡ bytes_eq x y → (x ≡ y → ⊥) → bytes_eq x y ≡ false
@@ -52,182 +80,90 @@ distinct-apart (x ∷ xs) y zs d (zero, lt, e) =
     false≢true (sym (all-middle (λ z. bytes_eq x z ≡ false) xs y zs d.0) ∙ (bytes_eq-Decides x y).1 e)
 distinct-apart (x ∷ xs) y zs d (suc k, lt, e) = distinct-apart xs y zs d.1 (k, omega arith, e)
 
-pub distinct-ports : (first second : List ℕ) → (first ≡ second → ⊥) → IsDistinct bytes_eq (declared_names first second [])
+pub distinct-ports : (first second : List ℕ) → (first ≡ second → ⊥) → IsDistinct bytes_eq (first ∷ second ∷ [])
 unfolding IsDistinct
 distinct-ports first second n = ((apart-from first second n, tt), (tt, tt))
 
-pub ports-apart : (first second : List ℕ) (names : List (List ℕ)) → IsDistinct bytes_eq (declared_names first second names) → first ≡ second → ⊥
+pub ports-apart : (first second : List ℕ) (names : List (List ℕ)) → IsDistinct bytes_eq (first ∷ second ∷ names) → first ≡ second → ⊥
 ports-apart first second names d e = distinct-apart (first ∷ []) second names d (0, omega arith, e)
 
--- more declarations behind some
-params-append : (xs ys : List Parameter) (rest : List (List ℕ)) → params_tokens (xs ++ ys) rest ≡ params_tokens xs (params_tokens ys rest)
-params-append [] ys rest = refl
-params-append (x ∷ xs) ys rest =
-    ap (λ tail. codes "parameter" ∷ codes "real" ∷ x.name ∷ codes "=" ∷ x.default ∷ codes ";" ∷ tail) (params-append xs ys rest)
-
-are-append : (xs ys : List Parameter) → AreParameters xs → AreParameters ys → AreParameters (xs ++ ys)
-are-append [] ys a b = b
-are-append (x ∷ xs) ys a b = (a.0, a.1, are-append xs ys a.2 b)
-
-are-rest : (xs ys : List Parameter) → AreParameters (xs ++ ys) → AreParameters ys
-are-rest [] ys a = a
-are-rest (x ∷ xs) ys a = are-rest xs ys a.2
-
--- each of them has a name
-pub are-names : (ps : List Parameter) → AreParameters ps → AreNames (map (λ p. p.name) ps)
-are-names [] a name (k, lt, e) = absurd (omega arith)
-are-names (p ∷ ps) a name (zero, lt, e) = let P : List ℕ → Type 0 = IsName in subst P e a.0
-are-names (p ∷ ps) a name (suc k, lt, e) = are-names ps a.2 name (k, omega arith, e)
-
--- some declarations and what is left are also other declarations and a rest: then what is left has the remaining ones
-record Remaining (some all : List Parameter) (left rest : List (List ℕ)) : Type 0 where
-  more : List Parameter
-  parts : all ≡ some ++ more
-  spelled : left ≡ params_tokens more rest
-
-parameter-same : (n m d e : List ℕ) → n ≡ m → d ≡ e → (let p : Parameter = record { name = n; default = d } in p) ≡ record { name = m; default = e }
-parameter-same n m d e f g = cc
-
-same-params : (some all : List Parameter) (left rest : List (List ℕ)) → params_tokens some left ≡ params_tokens all rest
-    → NextIsNot (codes "parameter") rest → Remaining some all left rest
-same-params [] all left rest e n = record { more = all; parts = refl; spelled = e }
-same-params (p ∷ ps) [] left rest e n = absurd (ends-not (codes "parameter") rest _ e n)
-same-params (p ∷ ps) (q ∷ qs) left rest e n =
-    let e1 = rest_of (rest_of e) in
-    let e2 = rest_of (rest_of e1) in
-    let name = first_of_tokens e1 in
-    let default = first_of_tokens e2 in
-    let r = same-params ps qs left rest (rest_of (rest_of e2)) n in
-    let same : q ≡ p = parameter-same q.name p.name q.default p.default (sym name) (sym default) in
-    record { more = r.more; parts = cc (same, r.parts); spelled = r.spelled }
-
-one-list : (some more : List Parameter) (left rest : List (List ℕ)) → left ≡ params_tokens more rest
-    → NextIsNot (codes "parameter") left → (some ++ more ≡ some) × (left ≡ rest)
-one-list some [] left rest e n = (append-nil some, e)
-one-list some (p ∷ ps) left rest e n = absurd (ends-not (codes "parameter") left _ (sym e) n)
-
--- the declarations of a text are one list
-pub unique-lists : (trees others : List Parameter) (left rest : List (List ℕ)) → params_tokens trees left ≡ params_tokens others rest
-    → NextIsNot (codes "parameter") left → NextIsNot (codes "parameter") rest → (others ≡ trees) × (left ≡ rest)
-unique-lists trees others left rest e m n =
-    let r = same-params trees others left rest e n in
-    let h = one-list trees r.more left rest r.spelled m in
-    (r.parts ∙ h.0, h.1)
-
--- So far these declarations were read from the start up to what is left.
-pub record ParamsLeft (first second : List ℕ) (start : List (List ℕ)) (names : List (List ℕ)) (left : List (List ℕ)) : Type 0 where
-  pub trees : List Parameter
-  pub spelled : start ≡ params_tokens trees left
-  pub are : AreParameters trees
-  pub named : names ≡ map (λ p. p.name) trees
-  pub distinct : IsDistinct bytes_eq (declared_names first second names)
-  pub few : length names ≤ 4096
-
 module _ (first second : List ℕ) where
-  pub params-begin : (start names : List (List ℕ)) → names ≡ [] → (first ≡ second → ⊥) → ParamsLeft first second start names start
-  params-begin start names none apart = record {
-    trees = [];
-    spelled = refl;
-    are = tt;
-    named = none;
-    distinct = let P : List (List ℕ) → Type 0 = λ ns. IsDistinct bytes_eq (declared_names first second ns) in
-        subst P (sym none) (distinct-ports first second apart);
-    few = let P : List (List ℕ) → Type 0 = λ ns. length ns ≤ 4096 in subst P (sym none) (omega arith);
-  }
+  -- the name of an item's parameter is there already, or there is no room for it
+  pub name-taken : (item : Item) (old : List (List ℕ)) (name : List ℕ) → parameter_name item.body ≡ Some name
+      → Contains old name ⊎ (length old ≡ 4096) → (other : List ℕ) → MayFollow first second item old other → ⊥
+  name-taken item old name e (inl h) other m =
+      let P : List ℕ → Type 0 = λ n. Contains (first ∷ second ∷ old) n in
+      m.fresh (subst P (some-injective name other (sym e ∙ m.named)) (contains-more first name (second ∷ old) (contains-more second name old h)))
+  name-taken item old name e (inr h) other m = let f = m.few in omega arith
 
-  -- a further declaration was read
-  pub params-step : (start names new left more after : List (List ℕ)) → ParamsLeft first second start names left
-      → left ≡ codes "parameter" ∷ more → ReadsParameter first second names new more after
-      → ParamsLeft first second start new after
-  params-step start names new left more after l e r = record {
-    trees = l.trees ++ r.tree ∷ [];
-    spelled = l.spelled ∙ ap (params_tokens l.trees) (e ∙ ap (λ tail. codes "parameter" ∷ tail) r.is.spelled)
-        ∙ sym (params-append l.trees (r.tree ∷ []) after);
-    are = are-append l.trees (r.tree ∷ []) l.are (r.is.name, r.is.default, tt);
-    named = r.added ∙ ap (λ ns. ns ++ r.tree.name ∷ []) l.named ∙ sym (map-append (λ p. p.name) l.trees (r.tree ∷ []));
-    distinct = let P : List (List ℕ) → Type 0 = λ ns. IsDistinct bytes_eq (declared_names first second ns) in
-        subst P (sym r.added) (distinct-push (declared_names first second names) r.tree.name l.distinct r.is.fresh);
-    few = let P : List (List ℕ) → Type 0 = λ ns. length ns ≤ 4096 in
-        subst P (sym r.added) (let n = r.is.few in omega (arith, length-append names (r.tree.name ∷ [])));
-  }
+  -- no items, and no names
+  pub names-begin : (names : List (List ℕ)) → names ≡ [] → (first ≡ second → ⊥) → HasNames first second [] names
+  names-begin names e n = let P : List (List ℕ) → Type 0 = λ ns. HasNames first second [] ns in subst P (sym e) (record { named = refl; free = refl; distinct = distinct-ports first second n; few = omega arith })
 
-  -- no declaration follows
-  pub params-finish : (start names left : List (List ℕ)) → ParamsLeft first second start names left → NextIsNot (codes "parameter") left
-      → ReadsParams first second start names left
-  params-finish start names left l e = record {
-    trees = l.trees;
-    is = record {
-      spelled = l.spelled;
-      are = l.are;
-      distinct = let P : List (List ℕ) → Type 0 = λ ns. IsDistinct bytes_eq (declared_names first second ns) in subst P l.named l.distinct;
-      few = let n = l.few in let m = ap length l.named in omega (arith, length-map l.trees (λ (p : Parameter). p.name));
-      ends = e;
-    };
-    named = l.named;
-  }
+  -- an item more
+  names-push : (some : List Item) (item : Item) (old new : List (List ℕ)) → HasNames first second some old → AddsName first second item old new
+      → HasNames first second (some ++ item ∷ []) new
+  names-push some item old new h a =
+      let P : List (List ℕ) → Type 0 = λ ns. HasNames first second (some ++ item ∷ []) ns in
+      subst P (sym a.added) (record {
+        named = map-append (λ (i : Item). parameter_name i.body) some (item ∷ [])
+            ∙ (λ j. h.named j ++ a.may.named j ∷ []) ∙ sym (map-append Some old (a.name ∷ []));
+        free = list_all-append is_free old (a.name ∷ []) ∙ and-both (list_all is_free old) (list_all is_free (a.name ∷ [])) h.free
+            (and-both (is_free a.name) true a.may.free refl);
+        distinct = distinct-push (first ∷ second ∷ old) a.name h.distinct a.may.fresh;
+        few = let k = a.may.few in omega (arith, length-append old (a.name ∷ []));
+      })
 
-  -- the declaration that has to follow
-  next-parameter : (some more : List Parameter) (names rest left after : List (List ℕ)) → names ≡ map (λ p. p.name) some
-      → AreParameters (some ++ more) → IsDistinct bytes_eq (declared_names first second (map (λ p. p.name) (some ++ more)))
-      → length (some ++ more) ≤ 4096 → left ≡ params_tokens more rest → NextIsNot (codes "parameter") rest
-      → left ≡ codes "parameter" ∷ after → (p : Parameter) × (tail : List (List ℕ)) × IsParameter first second names after p tail
-  next-parameter some [] names rest left after named are distinct few e n q = absurd (ends-not (codes "parameter") rest after (sym q ∙ e) n)
-  next-parameter some (p ∷ ps) names rest left after named are distinct few e n q =
-      let own = are-rest some (p ∷ ps) are in
-      let D : List (List ℕ) → Type 0 = λ ns. IsDistinct bytes_eq (declared_names first second ns) in
-      let d = subst D (map-append (λ p. p.name) some (p ∷ ps)) distinct in
-      let C : List (List ℕ) → Type 0 = λ ns. Contains (declared_names first second ns) p.name in
-      let m = ap length named in (
-        p,
-        params_tokens ps rest,
-        record {
-          spelled = rest_of (sym q ∙ e);
-          name = own.0;
-          default = own.1;
-          fresh = λ h. distinct-apart (declared_names first second (map (λ p. p.name) some)) p.name (map (λ p. p.name) ps) d (subst C named h);
-          few = omega (arith, length-append some (p ∷ ps), length-map some (λ (p : Parameter). p.name));
-        },
-      )
+  pub names-step : (items : List Item) (i : ℕ) (item d : Item) (old new : List (List ℕ)) → item ≡ get_or items i d → i < length items
+      → HasNames first second (take i items) old → AddsName first second item old new → HasNames first second (take (i + 1) items) new
+  names-step items i item d old new e lt h a =
+      let P : List Item → Type 0 = λ is. HasNames first second is new in
+      let Q : Item → Type 0 = λ x. AddsName first second x old new in
+      let R : ℕ → Type 0 = λ k. HasNames first second (take k items) new in
+      let next : suc i ≡ i + 1 = omega arith in
+      subst R next (subst P (sym (take-suc items i d lt)) (names-push (take i items) (get_or items i d) old new h (subst Q e a)))
 
-  -- where a declaration has to follow and there is none, there are no declarations
-  pub params-stuck : (start names left more : List (List ℕ)) → ParamsLeft first second start names left → left ≡ codes "parameter" ∷ more
-      → ((tree : Parameter) (rest : List (List ℕ)) → IsParameter first second names more tree rest → ⊥)
-      → (trees : List Parameter) (rest : List (List ℕ)) → IsParams first second start trees rest → ⊥
-  params-stuck start names left more l e none trees rest is =
-      let r = same-params l.trees trees left rest (sym l.spelled ∙ is.spelled) is.ends in
-      let A : List Parameter → Type 0 = AreParameters in
-      let D : List Parameter → Type 0 = λ ps. IsDistinct bytes_eq (declared_names first second (map (λ p. p.name) ps)) in
-      let L : List Parameter → Type 0 = λ ps. length ps ≤ 4096 in
-      let p = next-parameter l.trees r.more names rest left more l.named (subst A r.parts is.are) (subst D r.parts is.distinct)
-      (subst L r.parts is.few) r.spelled is.ends e in
-      none p.0 p.1 p.2
+  -- the name that follows some
+  record NextName (item : Item) (old names : List (List ℕ)) : Type 0 where
+    name : List ℕ
+    rest : List (List ℕ)
+    parted : names ≡ old ++ name ∷ rest
+    named : parameter_name item.body ≡ Some name
 
-  -- A declaration, a token at a time.
-  pub parameter-taken : (names text one two : List (List ℕ)) (name : List ℕ) → text ≡ codes "real" ∷ one → one ≡ name ∷ two
-      → Contains (declared_names first second names) name → (tree : Parameter) (rest : List (List ℕ))
-      → IsParameter first second names text tree rest → ⊥
-  parameter-taken names text one two name e f h tree rest is =
-      let same : name ≡ tree.name = first_of_tokens (sym f ∙ rest_of (sym e ∙ is.spelled)) in
-      let C : List ℕ → Type 0 = λ n. Contains (declared_names first second names) n in
-      is.fresh (subst C same h)
+  first-some : {x y : Option (List ℕ)} {xs ys : List (Option (List ℕ))} → x ∷ xs ≡ y ∷ ys → x ≡ y
+  first-some e = cc
 
-  pub declared-first : (names : List (List ℕ)) (name : List ℕ) → name ≡ first → Contains (declared_names first second names) name
-  declared-first names name e = (0, omega arith, sym e)
+  rest-some : {x y : Option (List ℕ)} {xs ys : List (Option (List ℕ))} → x ∷ xs ≡ y ∷ ys → xs ≡ ys
+  rest-some e = cc
 
-  pub declared-second : (names : List (List ℕ)) (name : List ℕ) → name ≡ second → Contains (declared_names first second names) name
-  declared-second names name e = (1, omega arith, sym e)
+  next-name : (items : List Item) (i : ℕ) (d : Item) (old names : List (List ℕ)) → i < length items → AreNamed items names
+      → AreNamed (take i items) old → NextName (get_or items i d) old names
+  next-name [] i d old names lt all some = absurd (omega arith)
+  next-name (x ∷ items) zero d [] [] lt all some = cc
+  next-name (x ∷ items) zero d [] (n ∷ ns) lt all some = record { name = n; rest = ns; parted = refl; named = first-some all }
+  next-name (x ∷ items) zero d (o ∷ os) names lt all some = cc
+  next-name (x ∷ items) (suc i) d old [] lt all some = cc
+  next-name (x ∷ items) (suc i) d [] (n ∷ ns) lt all some = cc
+  next-name (x ∷ items) (suc i) d (o ∷ os) (n ∷ ns) lt all some =
+      let r = next-name items i d os ns (omega arith) (rest-some all) (rest-some some) in
+      let same : n ≡ o = some-injective n o (sym (first-some all) ∙ first-some some) in
+      record { name = r.name; rest = r.rest; parted = λ j. same j ∷ r.parted j; named = r.named }
 
-  pub declared-name : (names : List (List ℕ)) (name : List ℕ) → Contains names name → Contains (declared_names first second names) name
-  declared-name names name h = contains-more first name (second ∷ names) (contains-more second name names h)
-
-  pub undeclared : (names : List (List ℕ)) (name : List ℕ) → (name ≡ first → ⊥) → (name ≡ second → ⊥) → (Contains names name → ⊥)
-      → Contains (declared_names first second names) name → ⊥
-  undeclared names name n1 n2 n3 h =
-      elim (contains-cases first name (second ∷ names) h) [
-        | inl e ↦ n1 (sym e)
-        | inr k ↦ elim (contains-cases second name names k) [ inl e ↦ n2 (sym e) | inr j ↦ n3 j ]
-      ]
-
-  pub parameter-full : (names text : List (List ℕ)) → length names ≡ 4096 → (tree : Parameter) (rest : List (List ℕ))
-      → IsParameter first second names text tree rest → ⊥
-  parameter-full names text e tree rest is = let f = is.few in omega arith
+  -- an item whose parameter may not follow
+  pub names-stuck : (items : List Item) (i : ℕ) (item d : Item) (old : List (List ℕ)) → item ≡ get_or items i d → i < length items
+      → HasNames first second (take i items) old → ((name : List ℕ) → MayFollow first second item old name → ⊥)
+      → (names : List (List ℕ)) → HasNames first second items names → ⊥
+  names-stuck items i item d old e lt h none names all =
+      let r = next-name items i d old names lt all.named h.named in
+      let D : List (List ℕ) → Type 0 = λ ns. IsDistinct bytes_eq (first ∷ second ∷ ns) in
+      let L : List (List ℕ) → Type 0 = λ ns. length ns ≤ 4096 in
+      let F : List (List ℕ) → Type 0 = λ ns. list_all is_free ns ≡ true in
+      let few : length (old ++ r.name ∷ r.rest) ≤ 4096 = subst L r.parted all.few in
+      none r.name (record {
+        named = ap (λ x. parameter_name x.body) e ∙ r.named;
+        free = and-left (is_free r.name) (list_all is_free r.rest)
+            (and-right (list_all is_free old) (list_all is_free (r.name ∷ r.rest))
+            (sym (list_all-append is_free old (r.name ∷ r.rest)) ∙ subst F r.parted all.free));
+        fresh = distinct-apart (first ∷ second ∷ old) r.name r.rest (subst D r.parted all.distinct);
+        few = omega (arith, length-append old (r.name ∷ r.rest));
+      })

@@ -1,4 +1,4 @@
--- The straight code that the reader writes for a sum while it reads it. It follows the program; no public contract names it.
+-- The straight code that is written for an expression of the form. It follows the program; no public contract names it.
 use Rattle.std.specs.Prelude.{ℕ, ◌+◌, List, [], ◌∷◌, ◌++◌}
 use Rattle.c_tree.specs.declared.short.Field.TheVariants.{Param, Row}
 use Rattle.c_tree.specs.declared.short.Atom.{Atom}
@@ -9,7 +9,10 @@ use Rattle.c_tree.specs.declared.short.Right.TheVariants.{Negated, Binary}
 use Rattle.c_tree.specs.declared.short.Load.{Load}
 use Rattle.c_tree.specs.declared.short.Statement.{Statement}
 use Rattle.c_tree.specs.declared.short.Statement.TheVariants.{Declare, Set}
-use Rattle.first_form.specs.Form.{Sum, sum, Terms, no_term, plus, minus, Term, term, Factors, no_factor, times, over, Factor, parameter, potential, group, FirstForm, names_of}
+use Rattle.va_tree.specs.declared.expr.BinaryOp.{BinaryOp}
+use Rattle.va_tree.specs.declared.expr.BinaryOp.TheVariants.{Add, Subtract, Multiply, Divide}
+use Rattle.va_tree.specs.Expressions.{Expression, literal, infinity, name, group, unary, binary, choose, call}
+use Rattle.first_form.specs.Form.{FirstForm}
 use Rattle.first_form.specs.Residuals.{number_in}
 
 -- some statements, the number of the next local, and where the value is
@@ -26,40 +29,49 @@ joined left operator right = record {
   atom = Local right.next;
 }
 
--- the code of each part of a sum, from a next local on
+-- the operator of the C file for one of the form, and any for another
+abbrev pub operator_of : BinaryOp → Operator
+operator_of Add = Plus
+operator_of Subtract = Minus
+operator_of Multiply = Times
+operator_of Divide = Over
+operator_of others = Plus
+
+-- no statements, and an atom
+abbrev pub without : Atom → ℕ → Code
+without atom next = record { statements = []; next = next; atom = atom }
+
+-- the potential between the ports
+abbrev pub potential_code : ℕ → Code
+potential_code next = record {
+  statements = Declare next (Binary (Unknown 0) Minus (Unknown 1)) ∷ [];
+  next = next + 1;
+  atom = Local next;
+}
+
+-- The code of an expression among parameters of these names, from a next local on. Other expressions than those of the form
+-- are never asked for.
 module _ (names : List (List ℕ)) where
-  abbrev mutual
-    pub sum_code : Sum → ℕ → Code
-    sum_code (sum t ts) next = terms_code (term_code t next) ts
+  abbrev pub sum_code : Expression → ℕ → Code
+  sum_code (name at bytes) next = without (Field (Param (number_in names bytes))) next
+  sum_code (group at inner) next = sum_code inner next
+  sum_code (binary at left op right) next =
+      let first = sum_code left next in joined first (operator_of op) (sum_code right first.next)
+  sum_code (call at callee access args) next = potential_code next
+  sum_code (literal at value integer) next = without (Unknown 0) next
+  sum_code (infinity at) next = without (Unknown 0) next
+  sum_code (unary at op operand) next = without (Unknown 0) next
+  sum_code (choose at test a b) next = without (Unknown 0) next
 
-    -- the code so far, and that of what follows it
-    pub terms_code : Code → Terms → Code
-    terms_code code no_term = code
-    terms_code code (plus t ts) = terms_code (joined code Plus (term_code t code.next)) ts
-    terms_code code (minus t ts) = terms_code (joined code Minus (term_code t code.next)) ts
+-- what the evaluation does for a flow among parameters of these names: the flow, its negative, and both rows
+abbrev pub flow_statements : List (List ℕ) → Expression → List Statement
+flow_statements names flow =
+    let code = sum_code names flow 0 in
+    code.statements ++ Declare code.next (Negated code.atom) ∷ Set (Row 0) code.atom ∷ Set (Row 1) (Local code.next) ∷ []
 
-    pub term_code : Term → ℕ → Code
-    term_code (term f fs) next = factors_code (factor_code f next) fs
-
-    pub factors_code : Code → Factors → Code
-    factors_code code no_factor = code
-    factors_code code (times f fs) = factors_code (joined code Times (factor_code f code.next)) fs
-    factors_code code (over f fs) = factors_code (joined code Over (factor_code f code.next)) fs
-
-    pub factor_code : Factor → ℕ → Code
-    factor_code (parameter name) next = record { statements = []; next = next; atom = Field (Param (number_in names name)) }
-    factor_code potential next = record {
-      statements = Declare next (Binary (Unknown 0) Minus (Unknown 1)) ∷ [];
-      next = next + 1;
-      atom = Local next;
-    }
-    factor_code (group s) next = sum_code s next
-
--- the statements of the evaluation: the flow, its negative, and both rows
+-- the statements of the evaluation of a form
 abbrev pub form_statements : FirstForm → List Statement
-form_statements form =
-    let flow = sum_code (names_of form) form.flow 0 in
-    flow.statements ++ Declare flow.next (Negated flow.atom) ∷ Set (Row 0) flow.atom ∷ Set (Row 1) (Local flow.next) ∷ []
+form_statements form = flow_statements form.params form.flow
 
 -- the statements of the load: each row is added to the target of the unknown of its number
 abbrev pub form_loads : List Load

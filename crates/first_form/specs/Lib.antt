@@ -3,5 +3,4 @@ pub mod Form
 pub mod Reading
 pub mod Residuals
 pub mod Translation
-pub mod Words
 pub mod Worked

@@ -1,31 +1,29 @@
-//! Texts of the first form, from their tokens to the short C file.
+//! Sources of the first form, from their tree to the short C file.
 //!
-//! `words` and `tokens` read what the expansion gives, `form` and `sums` the form and its sum, and `code` writes straight code.
-//! This is the front end of the first path. It goes when the parser of the whole language comes.
+//! `shape` takes the parts of a source, `form` and `names` ask what they have to keep, `sums` reads the flow, and `code` writes
+//! straight code.
 #![tactic(auto)]
 
 mod code;
 mod form;
 mod names;
+mod shape;
 mod sums;
-#[cfg(test)]
-mod tests;
-mod tokens;
-mod words;
 pub mod worked;
 
 ghost use Rattle.std.specs.Prelude.{◌≡◌, ◌∷◌, [], IfOk, IsErrOf};
-ghost use Rattle.first_form.specs.Form.{FirstForm, IsTextOf};
+ghost use Rattle.first_form.specs.Form.{FirstForm, IsSourceOfForm};
 ghost use Rattle.first_form.specs.Translation.{IsTranslation};
 
 use alg_laws::Algebra;
 use c_tree::short::{ShortFile, ShortModule};
-use form::read_expanded;
+use form::module_of_source;
 use std::alloc::Global;
 use std::marker::PhantomData;
-use va_base::{Expanded, Items};
+use va_base::Items;
+use va_tree::Source;
 
-/// Why a text has no C file.
+/// Why a source has no C file.
 #[derive(Clone, Copy, Debug, PartialEq, Eq)]
 pub enum TranslateErr {
     /// It is not of the first form.
@@ -33,17 +31,18 @@ pub enum TranslateErr {
     NoMemory,
 }
 
-/// The C file of a text of the first form. Its one module has two unknowns, the potentials of the ports in order, and the
-/// parameters in order of declaration; each run of it loads the residuals that the text contributes.
+/// The C file of a source of the first form. Its one module has two unknowns, the potentials of the ports in order, and the
+/// parameters in order of declaration; each run of it loads the residuals that the source contributes. `Unbuilt` comes only
+/// where the source is not of the form.
 pub fn translate<A: Algebra>(
     alloc: Global,
-    source: &Expanded,
+    source: &Source,
     _law: PhantomData<A>,
 ) -> Result<ShortFile, TranslateErr>
     ensures translated { IfOk result (λ file. IsTranslation A.ops A.valid source.now file.modules) }
-    ensures unbuilt { IsErrOf result TranslateErr.Unbuilt → (form : FirstForm) → IsTextOf source.now form → ⊥ }
+    ensures unbuilt { IsErrOf result TranslateErr.Unbuilt → (form : FirstForm) → IsSourceOfForm source.now form → ⊥ }
 {
-    let tree = read_expanded(alloc, source)?;
+    let tree = module_of_source(alloc, source)?;
     let modules = one_module(alloc, tree)?;
     Ok(ShortFile { modules })
 }

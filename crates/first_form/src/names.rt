@@ -1,11 +1,36 @@
-//! The names of the parameters, by number.
+//! Names: those that may be declared, and those of the parameters, by number.
 ghost use Rattle.std.specs.Prelude.{◌≡◌, ◌≤◌, ◌<◌, ◌∷◌, [], ◌++◌, ◌⊎◌, ℕ, List, length, map, Contains, MatchOption, OnOk, IsErrOf};
+ghost use Rattle.std.specs.List.{list_any};
+ghost use Rattle.std.specs.Str.{bytes_eq};
+ghost use Rattle.first_form.specs.Form.{is_free as is_free_lem};
 ghost use Rattle.first_form.specs.Residuals.{number_in};
 
 use crate::TranslateErr;
 use indexmap::IndexSet;
 use std::alloc::Global;
 use std::marker::Model;
+use va_base::Name;
+
+/// Whether a name has these bytes.
+pub fn is_named(name: &Name, bytes: &[u8]) -> bool
+    ensures { result ≡ bytes_eq name.now bytes.now }
+{
+    name.as_bytes() == bytes
+}
+
+/// Whether two names are the same.
+pub fn is_bytes(name: &[u8], other: &[u8]) -> bool
+    ensures { result ≡ bytes_eq name.now other.now }
+{
+    name == other
+}
+
+/// Whether a name is none that the first form uses itself, so that it may be declared.
+pub fn is_free(name: &[u8]) -> bool
+    ensures { result ≡ is_free_lem name.now }
+{
+    !is_bytes(name, b"V") && !is_bytes(name, b"I") && !is_bytes(name, b"electrical")
+}
 
 /// How many parameters a module may have.
 const MAX_PARAMS: usize = 4096;

@@ -1,17 +1,21 @@
-//! Sums, and the straight code that is written for them while they are read.
-ghost use Rattle.std.specs.Prelude.{◌≡◌, ◌∷◌, List, ℕ, MatchOption, IfOk, IfSome, IsErrOf, codes, length, ◌<◌, ◌≤◌};
-ghost use Rattle.first_form.specs.Words.{words};
-ghost use Rattle.first_form.specs.Form.{Sum, Term, Factor};
-ghost use Rattle.first_form.specs.Reading.{AreNames, EndsTerms, EndsFactors, IsAdditive, IsMultiplicative, mark, IsSum, IsTerm, IsFactor, ReadsSum, ReadsTerm, ReadsFactor};
+//! The flow of a form, and the straight code that is written for it.
+ghost use Rattle.std.specs.Prelude.{◌≡◌, true, false, Contains, MatchOption, IfOk, IsErrOf};
+ghost use Rattle.c_tree.specs.declared.short.Atom.TheVariants.{Field as field};
+ghost use Rattle.c_tree.specs.declared.short.Field.TheVariants.{Param as param};
+ghost use Rattle.va_tree.specs.Expressions.{expression_of, arguments_of};
+ghost use Rattle.first_form.specs.Form.{is_arithmetic, is_potential as is_potential_lem};
+ghost use Rattle.first_form.specs.Residuals.{number_in};
+ghost use Rattle.first_form.specs.Code.{operator_of, potential_code};
+ghost use Rattle.first_form.specs.Reading.{HasWritten, is_name_of, is_name_argument as is_name_argument_lem, are_port_arguments, IsSumIn, ReadsSum};
 
 use crate::TranslateErr;
 use crate::code::Writer;
-use crate::names::Names;
-use crate::tokens::{expect, expect_all, is_token, next_token};
+use crate::names::{Names, is_named};
 use c_tree::short::{Atom, Field, Operator, Right};
-use va_base::{FileText, Token};
+use va_base::Name;
+use va_tree::{Arg, BinaryOp, Callee, Expr};
 
-/// What may be named in a sum.
+/// What may be named in a flow.
 #[derive(Drop)]
 pub struct Scope<'a> {
     /// The first port.
@@ -22,154 +26,125 @@ pub struct Scope<'a> {
     pub names: Names<'a>,
 }
 
-/// The `+` or `-` that comes first, and what follows.
-fn additive<'a>(files: &'a [FileText], text: &'a [Token]) -> Option<(Operator, &'a [Token])>
-    ensures read { MatchOption result (EndsTerms (words files.now text.now))
-        (λ p. IsAdditive p.0 × (words files.now text.now ≡ mark p.0 ∷ words files.now p.1.now)) }
-    ensures shorter { IfSome result (λ p. length p.1.now < length text.now) }
+/// The operator of the C file for one of the form, and none for another.
+fn operator(op: BinaryOp) -> Option<Operator>
+    ensures { MatchOption result (is_arithmetic op ≡ false)
+        (λ operator. (is_arithmetic op ≡ true) × (operator ≡ operator_of op)) }
 {
-    let (token, rest) = next_token(files, text)?;
-    if is_token(token, b"+") {
-        return Some((Operator::Plus, rest));
+    match op {
+        BinaryOp::Add => Some(Operator::Plus),
+        BinaryOp::Subtract => Some(Operator::Minus),
+        BinaryOp::Multiply => Some(Operator::Times),
+        BinaryOp::Divide => Some(Operator::Over),
+        _ => None,
     }
-    if is_token(token, b"-") {
-        return Some((Operator::Minus, rest));
-    }
-    None
 }
 
-/// The `*` or `/` that comes first, and what follows.
-fn multiplicative<'a>(files: &'a [FileText], text: &'a [Token]) -> Option<(Operator, &'a [Token])>
-    ensures read { MatchOption result (EndsFactors (words files.now text.now))
-        (λ p. IsMultiplicative p.0 × (words files.now text.now ≡ mark p.0 ∷ words files.now p.1.now)) }
-    ensures shorter { IfSome result (λ p. length p.1.now < length text.now) }
+/// The cell of a parameter.
+fn parameter(scope: &Scope, name: &Name) -> Option<Atom>
+    ensures { MatchOption result (Contains scope.now.names name.now → ⊥)
+        (λ value. Contains scope.now.names name.now × (value ≡ field (param (number_in scope.now.names name.now)))) }
 {
-    let (token, rest) = next_token(files, text)?;
-    if is_token(token, b"*") {
-        return Some((Operator::Times, rest));
-    }
-    if is_token(token, b"/") {
-        return Some((Operator::Over, rest));
-    }
-    None
+    let number = scope.names.number(name.as_bytes())?;
+    Some(Atom::Field(Field::Param(number)))
 }
 
-/// Reads a sum, as far as it goes, and writes its code. At most `depth` parentheses may be open in it at once. It gives the
-/// sum's value, and what follows.
-#[cycle(sum)]
-pub fn sum<'a>(
-    scope: &Scope,
-    code: &mut Writer,
-    files: &'a [FileText],
-    text: &'a [Token],
-    depth: u32,
-) -> Result<(Atom, &'a [Token]), TranslateErr>
-    ensures read { IfOk result
-        (λ p. ReadsSum scope.now depth (words files.now text.now) code.old p.0 code.new (words files.now p.1.now)) }
-    ensures unread { IsErrOf result TranslateErr.Unbuilt → AreNames scope.now.names
-        → (tree : Sum) (rest : List (List ℕ)) → IsSum scope.now depth (words files.now text.now) tree rest → ⊥ }
-    ensures shorter { IfOk result (λ p. length p.1.now ≤ length text.now) }
+/// Whether an expression is this name alone.
+fn is_name(e: &Expr, name: &[u8]) -> bool
+    ensures { result ≡ is_name_of name.now e.now }
 {
-    let (mut value, mut rest) = term(scope, code, files, text, depth)?;
-    'terms: while let Some((operator, more)) = additive(files, rest) {
-        let (right, after) = term(scope, code, files, more, depth)?;
-        value = code.declare(Right::Binary(value, operator, right))?;
-        rest = after;
+    match e {
+        Expr::Name { name: found, .. } => is_named(found, name),
+        _ => false,
     }
-    Ok((value, rest))
 }
 
-/// Reads a term of a sum.
-#[cycle(sum)]
-fn term<'a>(
-    scope: &Scope,
-    code: &mut Writer,
-    files: &'a [FileText],
-    text: &'a [Token],
-    depth: u32,
-) -> Result<(Atom, &'a [Token]), TranslateErr>
-    ensures read { IfOk result
-        (λ p. ReadsTerm scope.now depth (words files.now text.now) code.old p.0 code.new (words files.now p.1.now)) }
-    ensures unread { IsErrOf result TranslateErr.Unbuilt → AreNames scope.now.names
-        → (tree : Term) (rest : List (List ℕ)) → IsTerm scope.now depth (words files.now text.now) tree rest → ⊥ }
-    ensures shorter { IfOk result (λ p. length p.1.now ≤ length text.now) }
+/// Whether an argument is this name alone.
+fn is_name_argument(arg: &Arg, name: &[u8]) -> bool
+    ensures { result ≡ is_name_argument_lem name.now arg.now }
 {
-    let (mut value, mut rest) = factor(scope, code, files, text, depth)?;
-    'factors: while let Some((operator, more)) = multiplicative(files, rest) {
-        let (right, after) = factor(scope, code, files, more, depth)?;
-        value = code.declare(Right::Binary(value, operator, right))?;
-        rest = after;
+    match arg {
+        Arg::Expr(e) => is_name(e, name),
+        Arg::Text(_) => false,
     }
-    Ok((value, rest))
 }
 
-/// Reads a factor of a term.
-#[cycle(sum)]
-fn factor<'a>(
-    scope: &Scope,
-    code: &mut Writer,
-    files: &'a [FileText],
-    text: &'a [Token],
-    depth: u32,
-) -> Result<(Atom, &'a [Token]), TranslateErr>
-    ensures read { IfOk result
-        (λ p. ReadsFactor scope.now depth (words files.now text.now) code.old p.0 code.new (words files.now p.1.now)) }
-    ensures unread { IsErrOf result TranslateErr.Unbuilt → AreNames scope.now.names
-        → (tree : Factor) (rest : List (List ℕ)) → IsFactor scope.now depth (words files.now text.now) tree rest → ⊥ }
-    ensures shorter { IfOk result (λ p. length p.1.now ≤ length text.now) }
+/// Whether the arguments are the two ports, in order.
+fn are_port_names(scope: &Scope, args: &[Arg]) -> bool
+    ensures { result ≡ are_port_arguments scope.now.first.now scope.now.second.now args.now }
 {
-    let Some((token, rest)) = next_token(files, text) else {
-        return Err(TranslateErr::Unbuilt);
-    };
-    if is_token(token, b"V") {
-        return potential(scope, code, files, rest);
+    match args {
+        [first, second] => {
+            is_name_argument(first, scope.first) && is_name_argument(second, scope.second)
+        }
+        _ => false,
     }
-    if is_token(token, b"(") {
-        return group(scope, code, files, rest, depth);
-    }
-    let Some(number) = scope.names.number(token) else {
-        return Err(TranslateErr::Unbuilt);
-    };
-    Ok((Atom::Field(Field::Param(number)), rest))
 }
 
-/// Reads what follows the `V` of the potential between the ports.
-fn potential<'a>(
-    scope: &Scope,
-    code: &mut Writer,
-    files: &'a [FileText],
-    text: &'a [Token],
-) -> Result<(Atom, &'a [Token]), TranslateErr>
-    ensures read { IfOk result (λ p. (depth : ℕ)
-        → ReadsFactor scope.now depth (codes "V" ∷ words files.now text.now) code.old p.0 code.new (words files.now p.1.now)) }
-    ensures unread { IsErrOf result TranslateErr.Unbuilt → AreNames scope.now.names → (depth : ℕ)
-        (tree : Factor) (rest : List (List ℕ)) → IsFactor scope.now depth (codes "V" ∷ words files.now text.now) tree rest → ⊥ }
-    ensures shorter { IfOk result (λ p. length p.1.now ≤ length text.now) }
+/// Whether a call is the potential between the ports.
+#[tactic(auto, using(crate::proofs::Flows::port_arguments))]
+fn is_potential(scope: &Scope, callee: Callee, access: &Name, args: &[Arg]) -> bool
+    ensures { result ≡ is_potential_lem scope.now.first.now scope.now.second.now callee access.now (arguments_of args.now) }
 {
-    let rest = expect_all(files, text, &[b"(", scope.first, b",", scope.second, b")"])?;
+    match callee {
+        Callee::Function => is_named(access, b"V") && are_port_names(scope, args),
+        Callee::System => false,
+    }
+}
+
+/// Writes the code of the potential between the ports.
+fn potential(code: &mut Writer) -> Result<Atom, TranslateErr>
+    ensures written { IfOk result (λ value. HasWritten code.old (potential_code code.old.next) code.new value) }
+    ensures memory { IsErrOf result TranslateErr.Unbuilt → ⊥ }
+{
     let value = code.declare(Right::Binary(Atom::Unknown(0), Operator::Minus, Atom::Unknown(1)))?;
-    Ok((value, rest))
+    Ok(value)
 }
 
-/// Reads what follows the `(` of a sum in parentheses.
+/// Reads an expression of the form, and writes its code. At most `depth` parentheses may be open in it at once. It gives the
+/// expression's value. It recurses as deep as the tree is.
 #[cycle(sum)]
-fn group<'a>(
-    scope: &Scope,
-    code: &mut Writer,
-    files: &'a [FileText],
-    text: &'a [Token],
-    depth: u32,
-) -> Result<(Atom, &'a [Token]), TranslateErr>
-    ensures read { IfOk result
-        (λ p. ReadsFactor scope.now depth (codes "(" ∷ words files.now text.now) code.old p.0 code.new (words files.now p.1.now)) }
-    ensures unread { IsErrOf result TranslateErr.Unbuilt → AreNames scope.now.names
-        → (tree : Factor) (rest : List (List ℕ)) → IsFactor scope.now depth (codes "(" ∷ words files.now text.now) tree rest → ⊥ }
-    ensures shorter { IfOk result (λ p. length p.1.now ≤ length text.now) }
+pub fn sum(scope: &Scope, code: &mut Writer, e: &Expr, depth: u32) -> Result<Atom, TranslateErr>
+    ensures read { IfOk result (λ value. ReadsSum scope.now depth (expression_of e.now) code.old value code.new) }
+    ensures unread { IsErrOf result TranslateErr.Unbuilt → IsSumIn scope.now depth (expression_of e.now) → ⊥ }
 {
-    if depth == 0 {
-        return Err(TranslateErr::Unbuilt);
+    match e {
+        Expr::Name { name, .. } => parameter(scope, name).ok_or(TranslateErr::Unbuilt),
+        Expr::Group { inner, .. } => {
+            if depth == 0 {
+                return Err(TranslateErr::Unbuilt);
+            }
+            let value = sum(scope, code, inner.get(), depth - 1)?;
+            Ok(value)
+        }
+        Expr::Binary {
+            left,
+            op,
+            right,
+            ..
+        } => {
+            let Some(operator) = operator(*op) else {
+                return Err(TranslateErr::Unbuilt);
+            };
+            let first = sum(scope, code, left.get(), depth)?;
+            let second = sum(scope, code, right.get(), depth)?;
+            let value = code.declare(Right::Binary(first, operator, second))?;
+            Ok(value)
+        }
+        Expr::Call {
+            callee,
+            name,
+            args,
+            ..
+        } => {
+            if !is_potential(scope, *callee, name, args.as_slice()) {
+                return Err(TranslateErr::Unbuilt);
+            }
+            let value = potential(code)?;
+            Ok(value)
+        }
+        Expr::Unary { .. } => Err(TranslateErr::Unbuilt),
+        Expr::Choose { .. } => Err(TranslateErr::Unbuilt),
+        Expr::Literal { .. } | Expr::Inf { .. } => Err(TranslateErr::Unbuilt),
     }
-    let (value, more) = sum(scope, code, files, text, depth - 1)?;
-    let rest = expect(files, more, b")")?;
-    Ok((value, rest))
 }

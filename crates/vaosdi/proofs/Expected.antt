@@ -2,7 +2,6 @@
 use Rattle.std.proofs.Common.{◌≡◌, ℕ, List, refl, sym, ap, ◌∙◌, subst, ◌⊎◌, inl, inr}
 use Rattle.std.specs.Prelude.{Option, Some, None}
 use Rattle.alg_laws.specs.Operations.{Operations}
-use Rattle.first_form.specs.Form.{FirstForm, IsTextOf}
 use Rattle.va_base.specs.declared.expanded.Expanded.{Expanded}
 use Rattle.va_base.specs.declared.token.Token.{Token}
 use Rattle.va_io.specs.Outside.{Holdings, held, Rose}
@@ -12,9 +11,10 @@ use Rattle.va_preproc.specs.Reading.{Stop}
 use Rattle.vaosdi.specs.declared.status.Status.{Status}
 use Rattle.vaosdi.specs.declared.status.Status.TheVariants.{Done, Refused, Usage, NoFile, ReadFault, WriteFault, NoMemory}
 use Rattle.vaosdi.specs.Requests.{Request, compile, IsRequest, IsNoRequest}
-use Rattle.vaosdi.specs.Answers.{Seen, IsDue, IsDueFor, IsExpected, Ends, Expands, IsRefused}
+use Rattle.vaosdi.specs.Answers.{Seen, IsDue, IsDueFor, IsExpected, Ends, Expands, IsBuilt, IsRefused}
 use Rattle.vaosdi.proofs.Asking.{same_file}
 use Rattle.vaosdi.proofs.AskedNames.{lacks_main}
+use Rattle.vaosdi.proofs.Fronts.{fault_not_built}
 
 -- an expansion gives one thing
 not_faulty : (x : Expansion) (tokens : List Token) (names : List (List ℕ)) (stop : Stop) → x ≡ expanded tokens names → x ≡ faulty stop → ⊥
@@ -44,11 +44,10 @@ module _ {V : Type 0} (o : Operations V) (valid : V → Type 0) (h : Holdings) (
   of_file : (P : List ℕ → Type 0) (file other : List ℕ) → IsRequest words (compile file) → IsRequest words (compile other) → P other → P file
   of_file P file other r q p = subst P (sym (same_file words file other r q)) p
 
-  -- the text was expanded, and is of the form
-  not_refused : (file : List ℕ) (e : Expanded) (form : FirstForm) → Expands h file e → IsTextOf e form → IsRefused h file → ⊥
-  not_refused file e form (names, x, f) t (inl (stop, y)) = not_faulty (expansion h file) e.tokens names stop x y
-  not_refused file e form x t (inr (e', x', none)) =
-      none form (subst (λ text. IsTextOf text form) (same_text h file e e' x x') t)
+  -- the text was expanded, and is compiled
+  not_refused : (file : List ℕ) (e : Expanded) → Expands h file e → IsBuilt e → IsRefused h file → ⊥
+  not_refused file e (names, x, f) t (inl (stop, y)) = not_faulty (expansion h file) e.tokens names stop x y
+  not_refused file e x t (inr (e', x', none)) = none (subst IsBuilt (same_text h file e e' x x') t)
 
   -- there is no such file
   not_expanded : (file : List ℕ) (e : Expanded) → held h file ≡ None → Expands h file e → ⊥
@@ -62,7 +61,7 @@ module _ {V : Type 0} (o : Operations V) (valid : V → Type 0) (h : Holdings) (
       → IsExpected (Some h) words expected → (Done ≡ expected) ⊎ (Done ≡ NoMemory)
   when_done text (compile file) r d Done e = inl refl
   when_done text (compile file) r (e, (is, (names, x, f, asks)), c) Refused (other, q, k) =
-      absurd (not_refused file e c.translation.form (names, x, f) c.translation.text (of_file (IsRefused h) file other r q k))
+      absurd (not_refused file e (names, x, f) (c.source, c.within, (c.translation.form, c.translation.parts)) (of_file (IsRefused h) file other r q k))
   when_done text (compile file) r (e, (is, (names, x, f, asks)), c) NoFile (other, q, k) =
       absurd (not_expanded file e (of_file (λ name. held h name ≡ None) file other r q k) (names, x, f))
   when_done text (compile file) r d Usage none = absurd (none (compile file) r)
@@ -74,12 +73,12 @@ module _ {V : Type 0} (o : Operations V) (valid : V → Type 0) (h : Holdings) (
   refused_by : (file text : List ℕ) → IsDueFor (Some h) files o valid (compile file) Refused text → IsRefused h file
   refused_by file text (name, fault, inl (inl d), l) = inl (d.0, d.1)
   refused_by file text (name, fault, inl (inr d), l) = absurd (steady d.1)
-  refused_by file text (name, fault, inr (e, (is, (names, x, f, asks)), u), l) = inr (e, (names, x, f), u.no_form)
+  refused_by file text (name, fault, inr (e, (is, (names, x, f, asks)), u), l) = inr (e, (names, x, f), fault_not_built e fault u.0)
 
   when_refused : (text : List ℕ) (request : Request) → IsRequest words request → IsDueFor (Some h) files o valid request Refused text → (expected : Status)
       → IsExpected (Some h) words expected → (Refused ≡ expected) ⊎ (Refused ≡ NoMemory)
-  when_refused text (compile file) r d Done (other, q, (e, x, (form, t))) =
-      absurd (not_refused file e form (of_file (λ name. Expands h name e) file other r q x) t (refused_by file text d))
+  when_refused text (compile file) r d Done (other, q, (e, x, t)) =
+      absurd (not_refused file e (of_file (λ name. Expands h name e) file other r q x) t (refused_by file text d))
   when_refused text (compile file) r d Refused e = inl refl
   when_refused text (compile file) r d NoFile (other, q, k) =
       absurd (lacking_not_refused file (of_file (λ name. held h name ≡ None) file other r q k) (refused_by file text d))

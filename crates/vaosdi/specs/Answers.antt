@@ -3,7 +3,9 @@ use Rattle.std.specs.Prelude.{◌≡◌, ◌<◌, ◌⊎◌, ℕ, List, [], ◌�
 use Rattle.alg_laws.specs.Operations.{Operations}
 use Rattle.c_tree.specs.declared.short.ShortModule.{ShortModule}
 use Rattle.c_tree.specs.short.Text.{text_of}
-use Rattle.first_form.specs.Form.{FirstForm, IsTextOf}
+use Rattle.va_tree.specs.declared.source.Source.{Source}
+use Rattle.va_grammar.specs.SourceOf.{IsSourceWithinSize}
+use Rattle.first_form.specs.Form.{FirstForm, IsSourceOfForm}
 use Rattle.first_form.specs.Translation.{IsTranslation}
 use Rattle.va_base.specs.declared.expanded.Expanded.{Expanded}
 use Rattle.va_base.specs.declared.fault.Fault.{Fault}
@@ -12,14 +14,16 @@ use Rattle.va_io.specs.Outside.{Holdings, held, Lacks, Appends, AppendsSome, Ros
 use Rattle.va_preproc.specs.Answers.{Seen as FilesSeen, AsksFor, CountsFault, AreFirst, WhereTold, IsExpansion, IsFirstFault, IsMissed}
 use Rattle.va_preproc.specs.Expansion.{limits, expansion, expanded, faulty, texts}
 use Rattle.va_preproc.specs.Reading.{Stop}
-use Rattle.vaosdi.specs.Faults.{fault_line, IsUnbuilt}
+use Rattle.vaosdi.specs.Faults.{fault_line, HasTextFault}
 use Rattle.vaosdi.specs.Requests.{Request, compile, IsRequest, IsNoRequest, reads_of}
 use Rattle.vaosdi.specs.declared.status.Status.{Status}
 use Rattle.vaosdi.specs.declared.status.Status.TheVariants.{Done, Refused, Usage, NoFile, ReadFault, WriteFault, NoMemory}
 
--- The C text is the print of a file that is a translation of the text after expansion: each run of it loads the residuals that
--- the source contributes, over every algebra.
-pub record IsCompiled {V : Type 0} (o : Operations V) (valid : V → Type 0) (source : Expanded) (text : List ℕ) : Type 0 where
+-- The C text is the print of a file that is a translation of the text's source, in which no fault of size stands: each run of it
+-- loads the residuals that the source contributes, over every algebra.
+pub record IsCompiled {V : Type 0} (o : Operations V) (valid : V → Type 0) (e : Expanded) (text : List ℕ) : Type 0 where
+  pub source : Source
+  pub within : IsSourceWithinSize e source
   pub modules : List ShortModule
   pub translation : IsTranslation o valid source modules
   pub print : text ≡ text_of modules
@@ -33,11 +37,11 @@ module _ (holds : Option Holdings) (files : FilesSeen) where
   abbrev pub IsSource : List ℕ → Expanded → Type 0
   IsSource file e = IsExpanded e × WhereTold holds (λ h. IsExpansion limits file files h e)
 
-  -- a file has this fault, in a file of this name: the first of its expansion; or, where that has none, it is not of the built form
+  -- a file has this fault, in a file of this name: the first of its expansion; or, where that has none, that of the text after it
   abbrev pub HasFault : List ℕ → List ℕ → Fault → Type 0
   HasFault file name fault =
       WhereTold holds (λ h. IsFirstFault limits file files h fault name ⊎ IsMissed limits file files h fault name)
-      ⊎ ((e : Expanded) × IsSource file e × IsUnbuilt e name fault)
+      ⊎ ((e : Expanded) × IsSource file e × HasTextFault e name fault)
 
   -- the file of the words is not there, and no other was asked for
   abbrev pub IsLacking : List ℕ → Type 0
@@ -80,7 +84,7 @@ module _ (holds : Option Holdings) (files : FilesSeen) where
 -- The text that is due where this text after expansion is compiled.
 abbrev pub IsDueOfSource : {V : Type 0} → Operations V → (V → Type 0) → Expanded → Status → List ℕ → Type 0
 IsDueOfSource o valid e Done text = IsCompiled o valid e text
-IsDueOfSource o valid e Refused text = (name : List ℕ) × (fault : Fault) × IsUnbuilt e name fault × (text ≡ fault_line name fault)
+IsDueOfSource o valid e Refused text = (name : List ℕ) × (fault : Fault) × HasTextFault e name fault × (text ≡ fault_line name fault)
 IsDueOfSource o valid e _ text = ⊥
 
 -- the reason why there is no output is written
@@ -162,18 +166,21 @@ Tells (Some files) P = P files
 abbrev pub Expands : Holdings → List ℕ → Expanded → Type 0
 Expands holds file e = (names : List (List ℕ)) × (expansion holds file ≡ expanded e.tokens names) × (e.files ≡ texts holds names)
 
--- the expansion has a fault, or its text is not of the built form
+-- a text after expansion is compiled: it has a source within the limits of size, which is of the built form
+abbrev pub IsBuilt : Expanded → Type 0
+IsBuilt e = (source : Source) × IsSourceWithinSize e source × ((form : FirstForm) × IsSourceOfForm source form)
+
+-- the expansion has a fault, or its text is none of those that are compiled
 abbrev pub IsRefused : Holdings → List ℕ → Type 0
 IsRefused holds file =
-    ((stop : Stop) × (expansion holds file ≡ faulty stop))
-    ⊎ ((e : Expanded) × Expands holds file e × ((form : FirstForm) → IsTextOf e form → ⊥))
+    ((stop : Stop) × (expansion holds file ≡ faulty stop)) ⊎ ((e : Expanded) × Expands holds file e × (IsBuilt e → ⊥))
 
 -- What is told of the files and the words decides how a command ends where no count rose, but for want of memory. Words
 -- that make no request need nothing told.
 abbrev pub IsExpected : Option Holdings → List (List ℕ) → Status → Type 0
 IsExpected holds words Done =
     (file : List ℕ) × IsRequest words (compile file)
-    × Tells holds (λ h. (e : Expanded) × Expands h file e × ((form : FirstForm) × IsTextOf e form))
+    × Tells holds (λ h. (e : Expanded) × Expands h file e × IsBuilt e)
 IsExpected holds words Refused = (file : List ℕ) × IsRequest words (compile file) × Tells holds (λ h. IsRefused h file)
 IsExpected holds words NoFile = (file : List ℕ) × IsRequest words (compile file) × Tells holds (λ h. held h file ≡ None)
 IsExpected holds words Usage = IsNoRequest words

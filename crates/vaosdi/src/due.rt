@@ -1,18 +1,17 @@
 //! What is due for the words of a command line: the output, or the reason why there is none.
-ghost use Rattle.std.specs.Prelude.{◌≡◌, ◌≤◌, ◌++◌, codes, map, string_bytes, IfOk, IsErrOf};
+ghost use Rattle.std.specs.Prelude.{◌≡◌, ◌≤◌, ◌++◌, codes, map, string_bytes, IfOk};
 ghost use Rattle.va_base.specs.Expansion.{IsExpanded};
 ghost use Rattle.va_preproc.specs.Answers.{seen};
-ghost use Rattle.first_form.specs.Form.{FirstForm, IsTextOf};
 ghost use Rattle.vaosdi.specs.Requests.{compile as compile_request, Asks, AsksFirst};
 ghost use Rattle.vaosdi.specs.Faults.{fault_line as fault_line_lem};
-ghost use Rattle.vaosdi.specs.Answers.{IsDue, IsDueFor, IsDueOfSource, IsCompiled, usage_line};
+ghost use Rattle.vaosdi.specs.Answers.{IsDue, IsDueFor, IsDueOfSource, usage_line};
 
-use crate::fault_line::{fault_line, file_name, unbuilt};
+use crate::compile::c_text;
+use crate::fault_line::{fault_line, file_name};
+use crate::front::FrontErr;
 use crate::request::{Command, command_of};
 use crate::status::Status;
 use alg_laws::Algebra;
-use c_print::short::print;
-use first_form::{TranslateErr, translate};
 use std::alloc::Global;
 use std::marker::PhantomData;
 use va_base::{Expanded, Fault, Name, NoMemory};
@@ -159,29 +158,11 @@ fn translated<A: Algebra>(
             status: Status::Done,
             text,
         }),
-        Err(TranslateErr::Unbuilt) => {
-            let fault = unbuilt(source);
+        Err(FrontErr::Fault(fault)) => {
             let name = file_name(source.files.as_list(), fault.place.file);
             let due = refusal(alloc, name, &fault)?;
             Ok(due)
         }
-        Err(TranslateErr::NoMemory) => Err(NoMemory),
-    }
-}
-
-/// The C text of a Verilog-A text.
-fn c_text<A: Algebra>(
-    alloc: Global,
-    law: PhantomData<A>,
-    source: &Expanded,
-) -> Result<Vec<u8>, TranslateErr>
-    ensures compiled { IfOk result (λ text. IsCompiled A.ops A.valid source.now text.items) }
-    ensures unbuilt { IsErrOf result TranslateErr.Unbuilt
-        → (form : FirstForm) → IsTextOf source.now form → ⊥ }
-{
-    let file = translate(alloc, source, law)?;
-    match print(alloc, &file) {
-        Ok(text) => Ok(text),
-        Err(NoMemory) => Err(TranslateErr::NoMemory),
+        Err(FrontErr::NoMemory) => Err(NoMemory),
     }
 }

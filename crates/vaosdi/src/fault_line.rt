@@ -1,10 +1,9 @@
 //! Faults as they are reported.
 ghost use Rattle.std.specs.Prelude.{◌≡◌, IfOk};
-ghost use Rattle.va_base.specs.Expansion.{IsExpanded};
-ghost use Rattle.vaosdi.specs.Faults.{fault_line as fault_line_lem, file_name as file_name_lem, StandsFirst};
+ghost use Rattle.vaosdi.specs.Faults.{fault_line as fault_line_lem, file_name as file_name_lem};
 
 use std::alloc::Global;
-use va_base::{Expanded, Fault, FaultCode, FileText, NoMemory, Phase};
+use va_base::{Fault, FileText, NoMemory};
 
 /// The line for a fault that stands in a file of this name: `NAME:LINE:COL: CODE` and a line end.
 pub fn fault_line(alloc: Global, name: &[u8], fault: &Fault) -> Result<Vec<u8>, NoMemory>
@@ -24,19 +23,5 @@ pub fn file_name(files: &[FileText], number: u32) -> &[u8]
     match files.get(number as usize) {
         Some(file) => file.name.as_bytes(),
         None => &[],
-    }
-}
-
-/// The fault of a text that is not of the built form.
-pub fn unbuilt(source: &Expanded) -> Fault
-    requires expanded { IsExpanded source.now }
-    ensures { StandsFirst source.now result }
-{
-    let first = source.tokens.as_list()[0];
-    Fault {
-        phase: Phase::Rules,
-        at: 0,
-        place: first.place,
-        code: FaultCode::Unbuilt,
     }
 }

@@ -2,8 +2,10 @@
 #![tactic(auto)]
 
 pub mod command;
+mod compile;
 mod due;
 mod fault_line;
+mod front;
 mod request;
 pub mod status;
 #[cfg(test)]

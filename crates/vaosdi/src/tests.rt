@@ -289,12 +289,12 @@ inout a, c;
 electrical a, c;
 analog I(a, c) <+ 0;
 endmodule
-~compile d/m.va>d/e/b.h:2:2: Unbuilt@d/m.va:`include \"e/b.h\"
+~compile d/m.va>d/e/b.h:2:2: Syntax@d/m.va:`include \"e/b.h\"
 @d/e/b.h:
  endmodule
 ~compile m.va>m.va:3:2: Unbuilt@m.va:`include \"word.h\"
 
- `WORD m
+ `WORD m; endmodule
 @word.h:`define WORD module
 ~compile m.va>m.va:2:1: Unbuilt@m.va:`include \"disc.h\" `include \"r.h\"
 @disc.h:
@@ -372,11 +372,11 @@ fn macros(alloc: Global, count: u32, uses: u32, used: u32) -> Result<String, All
 #[test]
 fn macros_are_limited(rt: HostRuntime) -> Result<(), Fail> {
     let rows = [
-        (64, 1, 63, "m.va:65:1: Unbuilt"),
-        (65, 1, 63, "m.va:66:1: Unbuilt"),
+        (64, 1, 63, "m.va:65:1: Syntax"),
+        (65, 1, 63, "m.va:66:1: Syntax"),
         (65, 1, 64, "m.va:66:1: MacroDeep"),
         (26, 2, 25, "m.va:27:1: TokensMany"),
-        (26, 2, 10, "m.va:27:1: Unbuilt"),
+        (26, 2, 10, "m.va:27:1: Syntax"),
     ];
     for (count, uses, used, line) in rows {
         let text = macros(rt.alloc(), count, uses, used)?;

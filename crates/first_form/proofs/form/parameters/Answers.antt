@@ -1,23 +1,17 @@
 use Rattle.std.proofs.lemmas.Result.{err_from_is_err_and}
-use Rattle.first_form.specs.Words.{words}
-use Rattle.first_form.proofs.Params.{params-begin, params-step, params-finish, params-stuck}
+use Rattle.first_form.proofs.Params.{names-begin, names-step, names-stuck}
 use Rattle.first_form.proofs.form.parameters.Goals as goal
 
-pub params-init : goal.params-init
-params-init c = params-begin c.args.first.now c.args.second.now (words c.args.files.now c.args.text.now) c.args.names.now c.requires.none c.requires.apart
+pub loop-item-init : goal.loop-item-init
+loop-item-init c = names-begin c.args.first.now c.args.second.now c.new-names.result c.new-names.ensures c.requires.apart
 
-pub params-preserved : goal.params-preserved
-params-preserved c =
-    params-step c.args.first.now c.args.second.now (words c.args.files.now c.args.text.now) c.params.names c.parameter.new.names (words c.args.files.now c.params.rest.now)
-    (words c.args.files.now c.in-Some.more.now) (words c.args.files.now c.in_ok-rest.rest.now) c.params.invariant c.in-Some.ensures.read c.in_ok-rest.ensures.read
-
-pub returns-in_err-rest-clause-unread : goal.returns-in_err-rest-clause-unread
-returns-in_err-rest-clause-unread c = λ e.
+pub returns-in_err-add_parameter-clause-unread : goal.returns-in_err-add_parameter-clause-unread
+returns-in_err-add_parameter-clause-unread c = λ e.
     let p = err_from_is_err_and c.from_residual.result c.from_residual.ensures.1 in
-    params-stuck c.args.first.now c.args.second.now (words c.args.files.now c.args.text.now) c.params.names (words c.args.files.now c.params.rest.now)
-    (words c.args.files.now c.in-Some.more.now) c.params.invariant c.in-Some.ensures.read (c.in_err-rest.ensures.unread cc)
+    names-stuck c.args.first.now c.args.second.now c.args.items.now c.loop-item.item-index c.item-item.result _ c.loop-item.names c.item-item.is
+    c.loop-item-test.true c.loop-item.invariant (c.in_err-add_parameter.ensures.unread (cc (p.1, p.2, e)))
 
-pub returns-clause-read : goal.returns-clause-read
-returns-clause-read c =
-    params-finish c.args.first.now c.args.second.now (words c.args.files.now c.args.text.now) c.params.names (words c.args.files.now c.params.rest.now)
-    c.params.invariant c.in_default.ensures.read
+pub loop-item-preserved : goal.loop-item-preserved
+loop-item-preserved c =
+    names-step c.args.first.now c.args.second.now c.args.items.now c.loop-item.item-index c.item-item.result _ c.loop-item.names c.add_parameter.new.names
+    c.item-item.is c.loop-item-test.true c.loop-item.invariant c.in_ok-add_parameter.ensures.added

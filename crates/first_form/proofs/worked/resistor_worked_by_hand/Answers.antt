@@ -1,26 +1,53 @@
-use Rattle.std.proofs.Common.{refl, lit<, lit≤}
-use Rattle.std.specs.Prelude.{codes}
+use Rattle.std.proofs.Common.{refl, ap, ◌∙◌, lit<, lit≤}
+use Rattle.std.specs.Prelude.{[], ◌∷◌, Some, codes}
 use Rattle.std.specs.List.{IsDistinct}
-use Rattle.va_base.specs.Numerals.{decimal_of, value_of, number_of, digit_count}
-use Rattle.va_base.specs.Spelling.{is_numeral}
-use Rattle.first_form.proofs.Reserved.{not-reserved}
+use Rattle.va_tree.specs.declared.expr.Expr.{Name}
+use Rattle.va_tree.specs.declared.expr.Expr.TheVariants.{Call}
+use Rattle.va_tree.specs.declared.expr.Arg.TheVariants as arg
+use Rattle.va_tree.specs.declared.expr.BinaryOp.TheVariants.{Divide}
+use Rattle.va_tree.specs.declared.expr.Callee.TheVariants.{Function}
+use Rattle.va_tree.specs.Expressions.{name as named, binary}
+use Rattle.va_tree.specs.ExpressionLaws.{expression-Binary, expression-Call}
+use Rattle.first_form.specs.Worked.{bare, directions, disciplines, resistance, contribution, resistor_module}
 use Rattle.first_form.proofs.worked.resistor_worked_by_hand.Goals as goal
 
 pub returns : goal.returns
-unfolding IsDistinct decimal_of value_of number_of digit_count is_numeral
-returns c = record {
-  resistor_is_the_text = record {
-    spelled = refl;
-    in_order = record {
-      name = (refl, not-reserved (codes "m") refl);
-      first = (refl, not-reserved (codes "a") refl);
-      second = (refl, not-reserved (codes "c") refl);
-      params = ((refl, not-reserved (codes "r") refl), refl, tt);
-      distinct = ((refl, (refl, tt)), ((refl, tt), (tt, tt)));
-      few = lit≤ tt;
-      known = ((tt, ((0, lit< tt, refl), tt)), tt);
-      shallow = lit≤ tt;
-    };
-  };
-  resistor_rows = refl;
-}
+unfolding IsDistinct
+returns c =
+    let args = arg.Expr (Name 34 (codes "a")) ∷ arg.Expr (Name 36 (codes "c")) ∷ [] in
+    record {
+      resistor_is_of_the_form = record {
+        parts = record {
+          parameters = bare resistance ∷ [];
+          shape = record {
+            only = resistor_module;
+            natures = refl;
+            disciplines = refl;
+            modules = refl;
+            attributes = refl;
+            name_is = refl;
+            ports = refl;
+            items = record {
+              directions = bare directions;
+              disciplines = bare disciplines;
+              contribution = bare contribution;
+              listed = refl;
+              bare = refl;
+              inout = refl;
+              electrical = refl;
+              flow_is = ap Some (expression-Binary 32 (Call 32 Function (codes "V") args) Divide (Name 39 (codes "r"))
+                  ∙ ap (λ e. binary 32 e Divide (named 39 (codes "r"))) (expression-Call 32 Function (codes "V") args));
+            };
+          };
+          named = refl;
+        };
+        in_order = record {
+          free = refl;
+          distinct = ((refl, (refl, tt)), ((refl, tt), (tt, tt)));
+          few = lit≤ tt;
+          sum = (refl, refl, (0, lit< tt, refl));
+          shallow = lit≤ tt;
+        };
+      };
+      resistor_rows = refl;
+    }

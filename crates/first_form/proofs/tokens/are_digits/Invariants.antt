@@ -1,7 +1,0 @@
-use Rattle.std.proofs.Common.{◌≡◌, drop}
-use Rattle.std.specs.List.{list_all}
-use Rattle.va_base.specs.Spelling.{is_digit_byte}
-use Rattle.first_form.proofs.tokens.are_digits.Given as goal
-
-abbrev pub invariant-loop-byte : goal.invariant-loop-byte
-invariant-loop-byte l = list_all is_digit_byte l.token ≡ list_all is_digit_byte (drop l.byte-index l.token)
