@@ -4,16 +4,16 @@
 //! needs a stack that is as deep.
 #![tactic(auto)]
 
-mod again;
+pub mod again;
 mod argument_uses;
-mod arguments;
-mod atoms;
+pub mod arguments;
+pub mod atoms;
 pub mod blame;
-mod body;
+pub mod body;
 pub mod breaks;
 pub mod calls;
 mod cell_checks;
-mod cell_types;
+pub mod cell_types;
 pub mod closed;
 mod count;
 mod declarations;
@@ -23,11 +23,11 @@ mod field;
 mod field_names;
 mod field_rows;
 pub mod fields;
-mod kinds;
+pub mod kinds;
 pub mod locals;
 pub mod numbering;
 mod ranges;
-mod scope;
+pub mod scope;
 pub mod tables;
 #[cfg(test)]
 mod tests;

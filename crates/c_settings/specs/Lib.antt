@@ -1,0 +1,4 @@
+pub mod Duties
+pub mod Walks
+pub mod Ends
+pub mod Starts
