@@ -1,0 +1,2 @@
+mod Modules
+mod Walked

@@ -1,0 +1,3 @@
+mod Decided
+mod Exists
+pub mod Readings

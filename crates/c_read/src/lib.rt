@@ -1,0 +1,14 @@
+//! Reads C files: which file the bytes of a text spell, or why they spell none.
+#![tactic(auto)]
+
+mod form;
+pub mod laws;
+mod reading;
+
+pub use form::form_fault;
+pub use reading::read;
+
+#[cfg(test)]
+mod samples;
+#[cfg(test)]
+mod tests;
