@@ -14,7 +14,7 @@ import shutil
 import sys
 import tempfile
 
-from measure import FLOOR, GROWTH, PROGRAM, measured, runs_asked
+from measure import GROWTH, PROGRAM, compiled, growth, measured, runs_asked
 
 TIMES = 12
 BYTES = 128
@@ -98,46 +98,64 @@ def empty(write):
     return 0
 
 
-def written(folder, text):
-    """Writes a text, an unknown macro at its end, and gives its size and the tokens of its result."""
-    path = os.path.join(folder, 'm.va')
-    with open(path, 'w') as file:
-        result = text(file.write)
-        file.write('`NO\n')
-    return os.path.getsize(path), result
+class Text:
+    """A text in a folder of its own, an unknown macro at its end, with its size and the tokens of its result."""
+
+    def __init__(self, top, name, text):
+        self.name = name
+        self.folder = os.path.join(top, name)
+        os.mkdir(self.folder)
+        path = os.path.join(self.folder, 'm.va')
+        with open(path, 'w') as file:
+            self.result = text(file.write)
+            file.write('`NO\n')
+        self.size = os.path.getsize(path)
 
 
 class Bench:
-    def __init__(self, folder, runs):
-        self.folder = folder
+    def __init__(self, runs):
         self.runs = runs
         self.passed = 0
         self.base = 0
-        self.base = self.expanded('an empty text', empty)[1]
+        with tempfile.TemporaryDirectory() as top:
+            text = Text(top, 'an empty text', empty)
+            [run] = compiled([text.folder], runs)
+            self.base = run.peak
+            self.told(text, run)
 
-    def expanded(self, name, text, beside=None, bounded=True):
-        """Prints what a text took, and gives its seconds and peak."""
-        size, result = written(self.folder, text)
-        status, seconds, peak = measured(self.folder, [PROGRAM, 'compile', 'm.va'], self.runs)
-        notes = [] if status == 1 else [f'status {status}']
-        most = self.base + (BYTES * result + size) / (1 << 20)
-        if bounded and result and peak > most:
+    def told(self, text, run, bounded=True, beside=None):
+        """Prints what a text took, beside another program where one is given."""
+        notes = [] if run.status == 1 else [f'status {run.status}']
+        most = self.base + (BYTES * text.result + text.size) / (1 << 20)
+        if bounded and text.result and run.peak > most:
             notes.append(f'memory above {most:.0f} MB')
         factor = ''
         if beside is not None:
-            _, other, _ = measured(self.folder, ['wc', '-w', 'm.va'], self.runs)
-            factor = f'{seconds / other:.1f} wc'
-            if seconds > TIMES * other:
+            factor = f'{run.seconds / beside.seconds:.1f} wc'
+            if run.seconds > TIMES * beside.seconds:
                 notes.append(f'above {TIMES}')
         self.passed += bool(notes)
-        print(f'{name:>36} {size / (1 << 20):7.1f} {result:9} {seconds:8.3f} {peak:8.1f} {factor:>9}  {", ".join(notes)}')
-        return seconds, peak
+        line = f'{text.name:>36} {text.size / (1 << 20):7.1f} {text.result:9} {run.seconds:8.3f} {run.peak:8.1f} {factor:>9}'
+        print(f'{line}  {", ".join(notes)}')
 
-    def grows(self, name, text, tokens, bounded=True):
-        """The same text at so many tokens and at twice as many."""
-        one, _ = self.expanded(f'{name}, n', text(tokens), bounded=bounded)
-        two, _ = self.expanded(f'{name}, 2n', text(2 * tokens), bounded=bounded)
-        times = two / one if two > FLOOR else 1.0
+    def compared(self, name, make):
+        """A text, and `wc -w` on it in turn, where that is there."""
+        with tempfile.TemporaryDirectory() as top:
+            text = Text(top, name, make)
+            commands = [(text.folder, [PROGRAM, 'compile', 'm.va'])]
+            if shutil.which('wc'):
+                commands.append((text.folder, ['wc', '-w', 'm.va']))
+            run, *beside = measured(commands, self.runs)
+            self.told(text, run, beside=beside[0] if beside else None)
+
+    def grows(self, name, make, tokens, bounded=True):
+        """The same text at so many tokens and at twice as many, in turn."""
+        with tempfile.TemporaryDirectory() as top:
+            texts = [Text(top, f'{name}, {n}', make(tokens * k)) for n, k in (('n', 1), ('2n', 2))]
+            one, two = compiled([text.folder for text in texts], self.runs)
+            for text, run in zip(texts, (one, two)):
+                self.told(text, run, bounded)
+        times = growth(one, two)
         note = '' if times <= GROWTH else f'above {GROWTH}'
         self.passed += bool(note)
         print(f'{name:>36} {times:53.2f}  {note}')
@@ -148,17 +166,15 @@ def main():
     if runs is None:
         return 0
     print(f'{"text":>36} {"MB":>7} {"tokens":>9} {"s":>8} {"peak MB":>8}')
-    with tempfile.TemporaryDirectory() as folder:
-        bench = Bench(folder, runs)
-        wc = shutil.which('wc')
-        bench.expanded('text as it stands', plain, wc)
-        bench.expanded('skipped text', skipped, wc)
-        bench.grows('macros that double', doubling, 990_000)
-        bench.grows('arguments that formals give', formals, 950_000)
-        # Its text has six tokens for each of the result, so the bound of memory is not asked of it.
-        bench.grows('a macro of that many formals', named, 200_000, bounded=False)
-        bench.grows('uses of one token', lambda n: uses(n, 1), 600_000)
-        bench.grows('uses of 1000 tokens', lambda n: uses(n, 1000), 600_000)
+    bench = Bench(runs)
+    bench.compared('text as it stands', plain)
+    bench.compared('skipped text', skipped)
+    bench.grows('macros that double', doubling, 990_000)
+    bench.grows('arguments that formals give', formals, 950_000)
+    # Its text has six tokens for each of the result, so the bound of memory is not asked of it.
+    bench.grows('a macro of that many formals', named, 200_000, bounded=False)
+    bench.grows('uses of one token', lambda n: uses(n, 1), 600_000)
+    bench.grows('uses of 1000 tokens', lambda n: uses(n, 1000), 600_000)
     return 1 if bench.passed else 0
 
 

@@ -11,7 +11,19 @@ import os
 import sys
 import tempfile
 
-from measure import FLOOR, GROWTH, PROGRAM, measured, runs_asked
+from measure import GROWTH, compiled, growth, runs_asked
+
+
+# So many summands stand in one chain: three levels of chains stay within the depth that a source may have.
+WIDTH = 150
+
+
+def nested(parts):
+    """A sum of these summands, in parentheses where a chain would be too deep."""
+    while len(parts) > WIDTH:
+        chains = [parts[i:i + WIDTH] for i in range(0, len(parts), WIDTH)]
+        parts = ['+ (' + '\n'.join(chain).removeprefix('+ ') + ')' for chain in chains]
+    return '\n'.join(parts).removeprefix('+ ')
 
 
 def text_of(params, terms):
@@ -20,18 +32,22 @@ def text_of(params, terms):
     lines = ['module m(a, c);', 'inout a, c;', 'electrical a, c;']
     lines += [f'parameter real {name} = {i + 1};' for i, name in enumerate(names)]
     signs = ['+', '-']
-    total = 'V(a, c)'
-    parts = [total] + [f'{signs[i % 2]} V(a, c) * {names[i * 7919 % params]}' for i in range(terms)]
-    lines.append('analog I(a, c) <+ ' + '\n'.join(parts) + ';')
+    parts = []
+    for i in range(terms):
+        sign = '' if i % WIDTH == 0 else signs[i % 2] + ' '
+        parts.append(f'{sign}V(a, c) * {names[i * 7919 % params]}')
+    lines.append('analog I(a, c) <+ ' + nested(parts) + ';')
     lines.append('endmodule')
     return '\n'.join(lines) + '\n'
 
 
-def compiled(folder, text, runs):
-    """What the compilation of a text took."""
+def written(top, name, text):
+    """A new folder with the text in it."""
+    folder = os.path.join(top, name)
+    os.mkdir(folder)
     with open(os.path.join(folder, 'm.va'), 'w') as file:
         file.write(text)
-    return measured(folder, [PROGRAM, 'compile', 'm.va'], runs)
+    return folder
 
 
 def main():
@@ -43,17 +59,16 @@ def main():
     cases += [(f'{n} MB of spaces', n, lambda n: ' ' * (n << 20), 1) for n in (1, 4, 8)]
     late = 0
     print(f'{"text":>20} {"n: s":>9} {"MB":>8} {"2n: s":>9} {"MB":>8} {"s":>6} {"MB":>6}')
-    with tempfile.TemporaryDirectory() as folder:
-        for name, n, make, wanted in cases:
-            first, one, small = compiled(folder, make(n), runs)
-            second, two, large = compiled(folder, make(2 * n), runs)
-            times = two / one if two > FLOOR else 1.0
-            sizes = large / small
-            note = '' if times <= GROWTH and sizes <= GROWTH else '  above'
-            if (first, second) != (wanted, wanted):
-                note += f'  status {first}, {second}'
-            late += bool(note)
-            print(f'{name:>20} {one:9.3f} {small:8.1f} {two:9.3f} {large:8.1f} {times:6.2f} {sizes:6.2f}{note}')
+    for name, n, make, wanted in cases:
+        with tempfile.TemporaryDirectory() as top:
+            one, two = compiled([written(top, 'n', make(n)), written(top, '2n', make(2 * n))], runs)
+        times = growth(one, two)
+        sizes = two.peak / one.peak
+        note = '' if times <= GROWTH and sizes <= GROWTH else '  above'
+        if (one.status, two.status) != (wanted, wanted):
+            note += f'  status {one.status}, {two.status}'
+        late += bool(note)
+        print(f'{name:>20} {one.seconds:9.3f} {one.peak:8.1f} {two.seconds:9.3f} {two.peak:8.1f} {times:6.2f} {sizes:6.2f}{note}')
     return 1 if late else 0
 
 

@@ -28,24 +28,52 @@ def runs_asked(description):
     return runs if is_built() else None
 
 
-def measured(folder, words, runs):
-    """The status, the least seconds, and the peak memory in MB of so many runs of a command in a folder.
+class Run:
+    """What the runs of a command in a folder took so far: the least seconds, the peak memory in MB, and the last status."""
 
-    The peak of a child counts what this process holds when it starts it, so texts are written in pieces and not kept.
-    """
-    best, peak = None, 0
-    for _ in range(runs):
+    def __init__(self, folder, words):
+        self.folder = folder
+        self.words = words
+        self.status = None
+        self.seconds = None
+        self.peak = 0
+
+    def once(self):
+        """Runs the command.
+
+        The peak of a child counts what this process holds when it starts it, so texts are written in pieces and not kept.
+        """
         sys.stdout.flush()
         start = time.perf_counter()
         child = os.fork()
         if child == 0:
-            os.chdir(folder)
+            os.chdir(self.folder)
             null = os.open(os.devnull, os.O_WRONLY)
             os.dup2(null, 1)
             os.dup2(null, 2)
-            os.execvp(words[0], words)
+            os.execvp(self.words[0], self.words)
         _, status, usage = os.wait4(child, 0)
         seconds = time.perf_counter() - start
-        best = seconds if best is None else min(best, seconds)
-        peak = max(peak, usage.ru_maxrss / 1024)
-    return os.waitstatus_to_exitcode(status), best, peak
+        self.status = os.waitstatus_to_exitcode(status)
+        self.seconds = seconds if self.seconds is None else min(self.seconds, seconds)
+        self.peak = max(self.peak, usage.ru_maxrss / 1024)
+
+
+def measured(commands, runs):
+    """A `Run` for each of some commands, a folder and words each. They run in turn, so that what else the machine does
+    falls on all of them alike."""
+    done = [Run(folder, words) for folder, words in commands]
+    for _ in range(runs):
+        for run in done:
+            run.once()
+    return done
+
+
+def compiled(folders, runs):
+    """What the compilation of the file `m.va` in each of some folders took."""
+    return measured([(folder, [PROGRAM, 'compile', 'm.va']) for folder in folders], runs)
+
+
+def growth(one, two):
+    """The factor of the seconds of two runs, or 1 where they are too few to say anything."""
+    return two.seconds / one.seconds if two.seconds > FLOOR else 1.0
