@@ -14,22 +14,42 @@ use Rattle.va_grammar.specs.SizeLinks.{no_tail, tail_of, tail_here, link_here, l
 use Rattle.va_grammar.specs.declared.size_links.Tail.{Tail}
 
 tail_shaped : (row : ℕ) (symbols : List Symbol) (ts : List Tree) → tail_of (node row (parts_from symbols ts)) ≡ tail_here symbols (tail_of (first_tree (later_trees ts)))
+tail_shaped row [] ts = refl
+tail_shaped row (Left a ∷ []) ts = refl
+tail_shaped row (Left a ∷ Left b ∷ []) ts = refl
+tail_shaped row (Left a ∷ Left b ∷ Kind k ∷ more) ts = refl
+tail_shaped row (Left a ∷ Left b ∷ Left c ∷ more) ts = refl
+tail_shaped row (Left a ∷ Kind k ∷ more) ts = refl
+tail_shaped row (Kind k ∷ []) ts = refl
+tail_shaped row (Kind k ∷ Kind j ∷ more) ts = refl
+tail_shaped row (Kind k ∷ Left a ∷ []) ts = refl
 tail_shaped row (Kind k ∷ Left a ∷ Left b ∷ []) ts = refl
 tail_shaped row (Kind k ∷ Left a ∷ Left b ∷ Kind j ∷ more) ts = refl
 tail_shaped row (Kind k ∷ Left a ∷ Left b ∷ Left c ∷ more) ts = refl
+tail_shaped row (Kind k ∷ Left a ∷ Kind j ∷ []) ts = refl
+tail_shaped row (Kind k ∷ Left a ∷ Kind j ∷ Kind i ∷ more) ts = refl
 tail_shaped row (Kind k ∷ Left a ∷ Kind j ∷ Left b ∷ []) ts = refl
 tail_shaped row (Kind k ∷ Left a ∷ Kind j ∷ Left b ∷ Kind i ∷ more) ts = refl
 tail_shaped row (Kind k ∷ Left a ∷ Kind j ∷ Left b ∷ Left c ∷ more) ts = refl
-tail_shaped row others ts = refl
 
 link_shaped : (row : ℕ) (symbols : List Symbol) (ts : List Tree) → links (node row (parts_from symbols ts)) ≡ link_here row symbols (tail_of (first_tree (later_trees ts)))
-link_shaped row (Kind k ∷ Left a ∷ Left b ∷ []) ts = refl
-link_shaped row (Kind k ∷ Left a ∷ Left b ∷ Kind j ∷ more) ts = refl
-link_shaped row (Kind k ∷ Left a ∷ Left b ∷ Left c ∷ more) ts = refl
+link_shaped row [] ts = refl
+link_shaped row (Left a ∷ []) ts = refl
 link_shaped row (Left a ∷ Left b ∷ []) ts = refl
 link_shaped row (Left a ∷ Left b ∷ Kind k ∷ more) ts = refl
 link_shaped row (Left a ∷ Left b ∷ Left c ∷ more) ts = refl
-link_shaped row others ts = refl
+link_shaped row (Left a ∷ Kind k ∷ more) ts = refl
+link_shaped row (Kind k ∷ []) ts = refl
+link_shaped row (Kind k ∷ Kind j ∷ more) ts = refl
+link_shaped row (Kind k ∷ Left a ∷ []) ts = refl
+link_shaped row (Kind k ∷ Left a ∷ Left b ∷ []) ts = refl
+link_shaped row (Kind k ∷ Left a ∷ Left b ∷ Kind j ∷ more) ts = refl
+link_shaped row (Kind k ∷ Left a ∷ Left b ∷ Left c ∷ more) ts = refl
+link_shaped row (Kind k ∷ Left a ∷ Kind j ∷ []) ts = refl
+link_shaped row (Kind k ∷ Left a ∷ Kind j ∷ Kind i ∷ more) ts = refl
+link_shaped row (Kind k ∷ Left a ∷ Kind j ∷ Left b ∷ []) ts = refl
+link_shaped row (Kind k ∷ Left a ∷ Kind j ∷ Left b ∷ Kind i ∷ more) ts = refl
+link_shaped row (Kind k ∷ Left a ∷ Kind j ∷ Left b ∷ Left c ∷ more) ts = refl
 
 second_listed : (ts : List Tree) → get_or (map tail_of ts) 1 no_tail ≡ tail_of (first_tree (later_trees ts))
 second_listed [] = refl

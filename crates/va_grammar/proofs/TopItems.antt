@@ -1,9 +1,8 @@
 -- From what was found at the top of a text to the source that the text stands for, or to its fault of size.
-use Rattle.std.specs.Prelude.{◌≡◌, ℕ, List, [], ◌∷◌, ◌++◌, Result, Err, refl}
+use Rattle.std.specs.Prelude.{◌≡◌, List, [], ◌++◌, Result, Err, refl}
 use Rattle.std.proofs.Common.{ap, sym, ◌∙◌, subst}
 use Rattle.predict.specs.declared.tree.ParseNode.{ParseNode}
 use Rattle.predict.specs.Sentence.{IsParsed}
-use Rattle.predict.specs.Tree.{Tree}
 use Rattle.va_base.specs.declared.expanded.Expanded.{Expanded}
 use Rattle.va_base.specs.declared.fault.Fault.{Fault}
 use Rattle.va_base.specs.declared.fault.FaultCode.{FaultCode}

@@ -1,5 +1,5 @@
 -- How attributes are read: a definition that the contracts of this crate's own functions cite. No public contract names it.
-use Rattle.std.specs.Prelude.{ℕ, ◌≡◌, ◌+◌, ◌<◌, ◌++◌, length}
+use Rattle.std.specs.Prelude.{◌≡◌, ◌+◌, ◌<◌, ◌++◌, length}
 use Rattle.va_base.specs.declared.expanded.Expanded.{Expanded}
 use Rattle.va_tree.specs.declared.source.AttributeGroup.{AttributeGroup}
 use Rattle.va_grammar.specs.Reading.{Ahead, trees, first_tree, later_trees}

@@ -1,6 +1,6 @@
 -- How trees are read from their nodes, row by row: definitions that the contracts of this crate's own functions cite. No public
 -- contract names them.
-use Rattle.std.specs.Prelude.{ℕ, zero, suc, ◌≡◌, ◌+◌, ◌<◌, ◌≤◌, List, [], ◌∷◌, length}
+use Rattle.std.specs.Prelude.{ℕ, Bool, true, false, zero, suc, ◌≡◌, ◌+◌, ◌<◌, ◌≤◌, List, [], ◌∷◌, length}
 use Rattle.predict.specs.declared.symbol.Symbol.{Symbol}
 use Rattle.predict.specs.declared.symbol.Symbol.TheVariants.{Kind, Left}
 use Rattle.predict.specs.declared.tree.ParseNode.{ParseNode}
@@ -65,6 +65,11 @@ pub record TakesRow (before after : Ahead) (row : ℕ) : Type 0 where
   pub trees_are : trees before ≡ node row (parts_from (row_symbols row) (trees after)) ∷ trees_behind (row_symbols row) (trees after)
   pub at_is : after.at ≡ before.at
   pub fewer : length after.nodes < length before.nodes
+
+-- the next node was taken, and its row has no symbols; or, where this isn't so, nothing was taken
+abbrev pub TakesEnd : Bool → Ahead → Ahead → Type 0
+TakesEnd true before after = (row : ℕ) × (row_symbols row ≡ []) × TakesRow before after row
+TakesEnd false before after = after ≡ before
 
 -- the next token was passed, of this index
 pub record TakesToken (before after : Ahead) (index : ℕ) : Type 0 where

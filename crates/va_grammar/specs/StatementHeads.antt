@@ -1,7 +1,7 @@
 -- How statements are read, the parts before their inner statements first: definitions that the contracts of this crate's own functions
 -- cite. No public contract names them.
-use Rattle.std.specs.Prelude.{ℕ, ◌≡◌, ◌+◌, ◌<◌, length, Bool, true, false, List, [], ◌∷◌, Option, Some, None}
-use Rattle.predict.specs.Tree.{Tree, node, no_parts, token, subtree}
+use Rattle.std.specs.Prelude.{ℕ, ◌≡◌, ◌+◌, ◌<◌, length, List, [], ◌∷◌, Option, Some, None}
+use Rattle.predict.specs.Tree.{Tree}
 use Rattle.va_base.specs.declared.expanded.Expanded.{Expanded}
 use Rattle.va_tree.specs.declared.expr.Expr.{Expr}
 use Rattle.va_tree.specs.declared.stmt.Assignment.{Assignment}

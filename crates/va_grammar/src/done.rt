@@ -1,7 +1,7 @@
 //! Statements that are done, and taking those that a statement holds from the end of their list.
 //!
 //! Where the list is shorter than is needed, which never is so, that is answered as want of memory is.
-ghost use Rattle.std.specs.Prelude.{◌≡◌, [], ◌∷◌, ◌++◌, IfOk, OnOk, None, Some, List, length};
+ghost use Rattle.std.specs.Prelude.{◌≡◌, [], ◌∷◌, ◌++◌, IfOk, OnOk, None, Some, List, drop, length, take};
 ghost use Rattle.va_grammar.specs.SourceStatements.{defaulted};
 ghost use Rattle.va_grammar.specs.StatementHeads.{item_of, turn_of};
 ghost use Rattle.va_tree.specs.declared.stmt.Stmt.{Stmt};
@@ -9,6 +9,7 @@ ghost use Rattle.va_tree.specs.declared.stmt.Stmt.{Stmt};
 use crate::statement_heads::{Condition, Turn, with_body};
 use sqlite_items::{Boxed, Items as Children};
 use std::alloc::{AllocError, Global};
+use std::mem::replace;
 use va_base::Items;
 use va_tree::{CaseDefault, CaseItem, Declaration, Expr, NameAt, Stmt};
 
@@ -69,8 +70,22 @@ pub(crate) fn close_if_else(
     Ok(())
 }
 
+/// The statements from `start` on. Where these are all, nothing is copied.
+fn from_place(alloc: Global, done: &mut Vec<Stmt>, start: usize) -> Result<Vec<Stmt>, AllocError>
+    ensures { IfOk result (λ body. (done.new.items ≡ take start done.old.items) × (body.items ≡ drop start done.old.items)) }
+{
+    if start == 0 {
+        return Ok(replace(done, Vec::new(alloc)));
+    }
+    if start > done.len() {
+        return Err(AllocError);
+    }
+    done.split_off(start)
+}
+
 /// A block, which holds the statements from `start` on.
 pub(crate) fn close_block(
+    alloc: Global,
     done: &mut Vec<Stmt>,
     start: usize,
     at: u32,
@@ -79,10 +94,7 @@ pub(crate) fn close_block(
 ) -> Result<(), AllocError>
     ensures { OnOk result ((front body : List Stmt) → done.old.items ≡ front ++ body → start ≡ length front → done.new.items ≡ front ++ Stmt.Block at label list.items body ∷ []) }
 {
-    if start > done.len() {
-        return Err(AllocError);
-    }
-    let body = done.split_off(start)?;
+    let body = from_place(alloc, done, start)?;
     done.push(Stmt::Block {
         at,
         label,

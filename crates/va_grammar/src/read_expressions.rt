@@ -71,6 +71,10 @@ fn operand(alloc: Global, e: &Expanded, reader: &mut Reader<'_>) -> Result<Expr,
     match operand_row(row) {
         Some(OperandRow::Operands) => {
             let first = operand(alloc, e, reader)?;
+            // The common case, in which `chain` would but hand the operand on, which costs a copy at each precedence.
+            if reader.take_end()? {
+                return Ok(first);
+            }
             let value = chain(alloc, e, reader, at, first)?;
             Ok(value)
         }

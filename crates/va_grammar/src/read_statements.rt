@@ -94,7 +94,7 @@ fn block(
     let start = done.len();
     statements(alloc, e, reader, done)?;
     reader.token()?;
-    close_block(done, start, at, label, list)?;
+    close_block(alloc, done, start, at, label, list)?;
     Ok(())
 }
 

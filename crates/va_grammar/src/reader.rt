@@ -1,7 +1,8 @@
 //! Reading a parse tree node by node, in step with the tokens that it spells.
 ghost use Rattle.std.specs.Prelude.{◌≡◌, IfOk, OnOk};
-ghost use Rattle.va_grammar.specs.Reading.{TakesRow, TakesToken};
+ghost use Rattle.va_grammar.specs.Reading.{TakesEnd, TakesRow, TakesToken};
 
+use crate::operators::{TailRow, tail_row};
 use predict::ParseNode;
 use std::alloc::AllocError;
 use std::marker::Model;
@@ -63,6 +64,22 @@ impl<'a> Reader<'a> {
             return Err(AllocError);
         }
         Ok(())
+    }
+
+    /// Takes the next node where it ends the operators behind an operand, and says whether it does.
+    pub fn take_end(&mut self) -> Result<bool, AllocError>
+        ensures { IfOk result (λ ends. TakesEnd ends self.old self.new) }
+    {
+        let Some((node, rest)) = self.nodes.split_first() else {
+            return Err(AllocError);
+        };
+        match tail_row(node.row) {
+            Some(TailRow::End) => {
+                self.nodes = rest;
+                Ok(true)
+            }
+            _ => Ok(false),
+        }
     }
 
     /// Passes the next token, and answers its index.

@@ -3,7 +3,7 @@ ghost use Rattle.std.specs.Prelude.{◌≡◌, [], ◌∷◌, reverse, get_or, m
 ghost use Rattle.va_rows.specs.Parts.{symbol_of};
 ghost use Rattle.va_grammar.specs.Reading.{row_symbols};
 ghost use Rattle.va_grammar.specs.SizeRows.{links_of};
-ghost use Rattle.va_grammar.specs.SizeLinks.{has_token as has_token_lem, has_rule as has_rule_lem, is_pair as is_pair_lem, is_operator as is_operator_lem, is_choice as is_choice_lem, no_tail, tail_here as tail_here_lem, link_here as link_here_lem, tails_behind};
+ghost use Rattle.va_grammar.specs.SizeLinks.{shape_of, no_tail, tail_by, tail_here as tail_here_lem, link_by, link_here as link_here_lem, tails_behind};
 
 use crate::size_rules::row_parts;
 use predict::ParseNode;
@@ -39,8 +39,9 @@ fn join(tails: &mut Vec<Tail>, links: &mut Vec<u32>, row: u16) -> Result<(), All
 {
     let parts = row_parts(row);
     let second = second_tail(tails.as_slice());
-    let link = link_here(row, parts, second)?;
-    let tail = tail_here(parts, second)?;
+    let shape = parts_shape(parts);
+    let link = link_here(row, shape, second)?;
+    let tail = tail_here(shape, second)?;
     drop_trees(tails, parts);
     tails.push(tail)?;
     links.push(link)?;
@@ -80,95 +81,67 @@ fn drop_tree(tails: &mut Vec<Tail>, part: Part)
     }
 }
 
-/// What a row with these parts is, where its second tree is this.
-fn tail_here(parts: &[Part], second: Tail) -> Result<Tail, AllocError>
-    ensures { IfOk result (λ t. t ≡ tail_here_lem (map symbol_of parts.now) second) }
+/// How the parts of a row follow each other, as far as operators go.
+#[derive(Clone, Copy, Debug, PartialEq, Eq)]
+pub(crate) enum Shape {
+    /// Two nonterminals: an operand and what follows it.
+    Pair,
+    /// A token and two nonterminals: an operator, its right operand, and the rest.
+    Operator,
+    /// A token, a nonterminal, a token and a nonterminal: `?` with its two values.
+    Choice,
+    /// Any others.
+    Other,
+}
+
+/// How the parts of a row follow each other.
+fn parts_shape(parts: &[Part]) -> Shape
+    ensures { result ≡ shape_of (map symbol_of parts.now) }
 {
-    if is_operator(parts) {
-        let operators = second.operators.checked_add(1).ok_or(AllocError)?;
-        Ok(Tail {
-            operators,
-            choices: 0,
-        })
-    } else if is_choice(parts) {
-        Ok(Tail {
+    match parts {
+        [Part::Rule(_), Part::Rule(_)] => Shape::Pair,
+        [Part::Token(_), Part::Rule(_), Part::Rule(_)] => Shape::Operator,
+        [Part::Token(_), Part::Rule(_), Part::Token(_), Part::Rule(_)] => Shape::Choice,
+        _ => Shape::Other,
+    }
+}
+
+/// What a row of this shape is, where its second tree is this.
+fn tail_here(shape: Shape, second: Tail) -> Result<Tail, AllocError>
+    ensures { IfOk result (λ t. t ≡ tail_by shape second) }
+{
+    match shape {
+        Shape::Operator => {
+            let operators = second.operators.checked_add(1).ok_or(AllocError)?;
+            Ok(Tail {
+                operators,
+                choices: 0,
+            })
+        }
+        Shape::Choice => Ok(Tail {
             operators: 0,
             choices: 1,
-        })
-    } else {
-        Ok(Tail {
+        }),
+        Shape::Pair | Shape::Other => Ok(Tail {
             operators: 0,
             choices: 0,
-        })
+        }),
     }
 }
 
-/// The links of a row with these parts, where its second tree is this.
-fn link_here(row: u16, parts: &[Part], second: Tail) -> Result<u32, AllocError>
-    ensures { IfOk result (λ n. n ≡ link_here_lem row (map symbol_of parts.now) second) }
+/// The links of a row of this shape, where its second tree is this.
+fn link_here(row: u16, shape: Shape, second: Tail) -> Result<u32, AllocError>
+    ensures { IfOk result (λ n. n ≡ link_by row shape second) }
 {
-    if is_pair(parts) {
-        if row == row::EXPRESSION {
-            Ok(second.choices)
-        } else {
-            Ok(second.operators)
+    match shape {
+        Shape::Pair => {
+            if row == row::EXPRESSION {
+                Ok(second.choices)
+            } else {
+                Ok(second.operators)
+            }
         }
-    } else if is_operator(parts) {
-        second.operators.checked_add(1).ok_or(AllocError)
-    } else {
-        Ok(0)
+        Shape::Operator => second.operators.checked_add(1).ok_or(AllocError),
+        Shape::Choice | Shape::Other => Ok(0),
     }
-}
-
-/// Whether this part of a row is a token.
-fn has_token(parts: &[Part], i: usize) -> bool
-    ensures { result ≡ has_token_lem (map symbol_of parts.now) i }
-{
-    match parts.get(i) {
-        Some(Part::Token(_)) => true,
-        _ => false,
-    }
-}
-
-/// Whether this part of a row is a nonterminal.
-fn has_rule(parts: &[Part], i: usize) -> bool
-    ensures { result ≡ has_rule_lem (map symbol_of parts.now) i }
-{
-    match parts.get(i) {
-        Some(Part::Rule(_)) => true,
-        _ => false,
-    }
-}
-
-/// Whether a row is two nonterminals.
-fn is_pair(parts: &[Part]) -> bool
-    ensures { result ≡ is_pair_lem (map symbol_of parts.now) }
-{
-    let first = has_rule(parts, 0);
-    let second = has_rule(parts, 1);
-    let more = has_token(parts, 2) || has_rule(parts, 2);
-    first && second && !more
-}
-
-/// Whether a row is a token and two nonterminals.
-fn is_operator(parts: &[Part]) -> bool
-    ensures { result ≡ is_operator_lem (map symbol_of parts.now) }
-{
-    let operator = has_token(parts, 0);
-    let right = has_rule(parts, 1);
-    let rest = has_rule(parts, 2);
-    let more = has_token(parts, 3) || has_rule(parts, 3);
-    operator && right && rest && !more
-}
-
-/// Whether a row is a token, a nonterminal, a token and a nonterminal.
-fn is_choice(parts: &[Part]) -> bool
-    ensures { result ≡ is_choice_lem (map symbol_of parts.now) }
-{
-    let question = has_token(parts, 0);
-    let yes = has_rule(parts, 1);
-    let colon = has_token(parts, 2);
-    let no = has_rule(parts, 3);
-    let more = has_token(parts, 4) || has_rule(parts, 4);
-    question && yes && colon && no && !more
 }

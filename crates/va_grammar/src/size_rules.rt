@@ -1,5 +1,5 @@
 //! What a row of the grammar does to the depth of what stands in it.
-ghost use Rattle.std.specs.Prelude.{◌≡◌, map, IfOk};
+ghost use Rattle.std.specs.Prelude.{◌≡◌, ◌==◌, if◌then◌else◌, map, IfOk};
 ghost use Rattle.va_rows.specs.Parts.{symbol_of};
 ghost use Rattle.va_grammar.specs.Reading.{row_symbols};
 ghost use Rattle.va_grammar.specs.SizeDeep.{if_deep, deep_row};
@@ -13,6 +13,45 @@ use va_rows::rows::{Part, ROWS};
 
 /// The depth that no node may have.
 const TOO_DEEP: u32 = 501;
+
+// The numbers of the nonterminals whose rows do more than pass their depth on.
+const STATEMENT: u16 = N::Statement as u16;
+
+const EXPRESSION: u16 = N::Expression as u16;
+
+const CONDITIONAL_TAIL: u16 = N::ConditionalTail as u16;
+
+const OR: u16 = N::Or as u16;
+
+const OR_TAIL: u16 = N::OrTail as u16;
+
+const AND: u16 = N::And as u16;
+
+const AND_TAIL: u16 = N::AndTail as u16;
+
+const EQUALITY: u16 = N::Equality as u16;
+
+const EQUALITY_TAIL: u16 = N::EqualityTail as u16;
+
+const RELATION: u16 = N::Relation as u16;
+
+const RELATION_TAIL: u16 = N::RelationTail as u16;
+
+const SUM: u16 = N::Sum as u16;
+
+const SUM_TAIL: u16 = N::SumTail as u16;
+
+const PRODUCT: u16 = N::Product as u16;
+
+const PRODUCT_TAIL: u16 = N::ProductTail as u16;
+
+const POWER: u16 = N::Power as u16;
+
+const POWER_TAIL: u16 = N::PowerTail as u16;
+
+const UNARY: u16 = N::Unary as u16;
+
+const PRIMARY: u16 = N::Primary as u16;
 
 /// What a row does to the depth.
 #[derive(Clone, Copy, Debug, PartialEq, Eq)]
@@ -44,60 +83,29 @@ pub(crate) fn row_parts(row: u16) -> &'static [Part]
     if i < ROWS.len() { ROWS[i] } else { &[] }
 }
 
-/// Whether a node begins with each row of a statement, of a sign, or of what stands alone in an expression.
-fn opens(left: u16, row: u16) -> bool
-    ensures { result ≡ does_open left row }
-{
-    let statement = left == N::Statement.number();
-    let primary = left == N::Primary.number();
-    let unary = left == N::Unary.number();
-    let signed = row != row::UNSIGNED;
-    statement || primary || (unary && signed)
-}
-
-/// Whether a nonterminal holds operands and the operators between them, or a test and its choice.
-fn chains(left: u16) -> bool
-    ensures { result ≡ does_chain left }
-{
-    let expression = left == N::Expression.number();
-    let or = left == N::Or.number();
-    let and = left == N::And.number();
-    let equality = left == N::Equality.number();
-    let relation = left == N::Relation.number();
-    let sum = left == N::Sum.number();
-    let product = left == N::Product.number();
-    let power = left == N::Power.number();
-    expression || or || and || equality || relation || sum || product || power
-}
-
-/// Whether a nonterminal holds operators and their right operands.
-fn follows(left: u16) -> bool
-    ensures { result ≡ does_follow left }
-{
-    let or = left == N::OrTail.number();
-    let and = left == N::AndTail.number();
-    let equality = left == N::EqualityTail.number();
-    let relation = left == N::RelationTail.number();
-    let sum = left == N::SumTail.number();
-    let product = left == N::ProductTail.number();
-    let power = left == N::PowerTail.number();
-    or || and || equality || relation || sum || product || power
-}
-
 /// What a row of this nonterminal does.
 pub(crate) fn row_rule(left: u16, row: u16) -> Rule
     ensures { result ≡ rule_of left row }
 {
-    if opens(left, row) {
-        Rule::Opens
-    } else if chains(left) {
-        Rule::Chains
-    } else if follows(left) {
-        Rule::Follows
-    } else if left == N::ConditionalTail.number() {
-        Rule::Chooses
-    } else {
+    match left {
+        STATEMENT | PRIMARY => Rule::Opens,
+        UNARY => sign_rule(row),
+        EXPRESSION | OR | AND | EQUALITY | RELATION | SUM | PRODUCT | POWER => Rule::Chains,
+        OR_TAIL | AND_TAIL | EQUALITY_TAIL | RELATION_TAIL | SUM_TAIL | PRODUCT_TAIL | POWER_TAIL =>
+            Rule::Follows,
+        CONDITIONAL_TAIL => Rule::Chooses,
+        _ => Rule::Passes,
+    }
+}
+
+/// What a row of an operand with its signs does.
+fn sign_rule(row: u16) -> Rule
+    ensures { result ≡ (if row == 165 then Rule.Passes else Rule.Opens) }
+{
+    if row == row::UNSIGNED {
         Rule::Passes
+    } else {
+        Rule::Opens
     }
 }
 

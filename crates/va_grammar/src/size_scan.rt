@@ -8,11 +8,11 @@ ghost use Rattle.va_base.specs.declared.expanded.Expanded.{Expanded};
 ghost use Rattle.va_rows.specs.Parts.{symbol_of};
 ghost use Rattle.va_grammar.specs.Reading.{row_symbols, trees_of, first_tree};
 ghost use Rattle.va_grammar.specs.SizeDeep.{earlier};
-ghost use Rattle.va_grammar.specs.SizeRows.{rule_of, depth_below as depth_below_lem, depth_last as depth_last_lem, due as due_lem, dues, name_opened, deep_in, modules_in};
+ghost use Rattle.va_grammar.specs.SizeRows.{depth_below as depth_below_lem, depth_last as depth_last_lem, due as due_lem, dues, name_opened, deep_in, modules_in};
 ghost use Rattle.va_grammar.specs.SizeScan.{AreDerived, many, NothingDue, ComesNext, due_parts};
 
 use crate::size_links::tree_links;
-use crate::size_rules::{Due, depth_below, depth_last, opened, row_parts, row_rule};
+use crate::size_rules::{Due, Rule, depth_below, depth_last, opened, row_parts, row_rule};
 use predict::{ParseNode, Symbol};
 use std::alloc::{AllocError, Global};
 use va_rows::nonterminal::Nonterminal;
@@ -50,12 +50,10 @@ pub(crate) fn scan(alloc: Global, nodes: &[ParseNode]) -> Result<Found, AllocErr
         let Some((left, depth)) = ahead.next()? else {
             return Err(AllocError);
         };
-        deep = least(
-            deep,
-            opened(row_rule(left, node.row), ahead.at, depth, link),
-        );
+        let rule = row_rule(left, node.row);
+        deep = least(deep, opened(rule, ahead.at, depth, link));
         names.count(left, ahead.at)?;
-        ahead.open(left, depth, node.row, link)?;
+        ahead.open(rule, depth, node.row, link)?;
     }
     if ahead.next()?.is_some() {
         return Err(AllocError);
@@ -146,12 +144,11 @@ impl Ahead {
         Ok(None)
     }
 
-    /// Lets a nonterminal of this depth give way to a row with so many links.
-    fn open(&mut self, left: u16, depth: u32, row: u16, links: u32) -> Result<(), AllocError>
-        ensures due { OnOk result (reverse self.new.due.items ≡ dues (row_symbols row) (depth_below_lem (rule_of left row) depth links) (depth_last_lem (rule_of left row) depth) ++ reverse self.old.due.items) }
+    /// Lets a nonterminal of this depth give way to a row that does this to depths and has so many links.
+    fn open(&mut self, rule: Rule, depth: u32, row: u16, links: u32) -> Result<(), AllocError>
+        ensures due { OnOk result (reverse self.new.due.items ≡ dues (row_symbols row) (depth_below_lem rule depth links) (depth_last_lem rule depth) ++ reverse self.old.due.items) }
         ensures at { OnOk result (self.new.at ≡ self.old.at) }
     {
-        let rule = row_rule(left, row);
         let below = depth_below(rule, depth, links)?;
         let last = depth_last(rule, depth)?;
         push_row(&mut self.due, row_parts(row), below, last)?;

@@ -3,3 +3,4 @@ pub mod VaFits
 pub mod Entries
 pub mod VaSymbols
 pub mod KindsEnd
+pub mod Spellings

@@ -1,5 +1,5 @@
 -- The kinds of the tokens of a text (Lexical conventions).
-use Rattle.std.specs.Prelude.{ℕ, Bool, false, if◌then◌else◌, List, [], ◌∷◌, map, Option, Some, None}
+use Rattle.std.specs.Prelude.{ℕ, ◌==◌, Bool, false, if◌then◌else◌, List, [], ◌∷◌, length, map, Option, Some, None}
 use Rattle.std.specs.Str.{bytes_eq}
 use Rattle.va_base.specs.declared.expanded.Expanded.{Expanded}
 use Rattle.va_base.specs.declared.file.FileText.{FileText}
@@ -21,6 +21,16 @@ marks = LeftParenthesis ∷ RightParenthesis ∷ LeftBracket ∷ RightBracket �
 abbrev pub is_spelling : Option (List ℕ) → List ℕ → Bool
 is_spelling None bytes = false
 is_spelling (Some spelling) bytes = bytes_eq spelling bytes
+
+-- whether a spelling has so many bytes
+abbrev pub is_long : ℕ → Option (List ℕ) → Bool
+is_long n None = false
+is_long n (Some spelling) = length spelling == n
+
+-- the kinds whose spelling has so many bytes
+abbrev pub as_long : ℕ → List Terminal → List Terminal
+as_long n [] = []
+as_long n (terminal ∷ rest) = if is_long n (spelling_of terminal) then terminal ∷ as_long n rest else as_long n rest
 
 -- the one among some kinds that these bytes spell, or else another
 abbrev pub spelled_among : List Terminal → List ℕ → Terminal → Terminal

@@ -2,7 +2,7 @@
 ghost use Rattle.std.specs.Prelude.{◌≡◌, IfOk};
 ghost use Rattle.predict.specs.Sentence.{EndsWith};
 ghost use Rattle.va_base.specs.Expansion.{IsExpanded};
-ghost use Rattle.va_rows.specs.Kinds.{is_spelling, kind_of as kind_of_lem, kinds_of, spelled_among};
+ghost use Rattle.va_rows.specs.Kinds.{as_long, is_spelling, keywords, kind_of as kind_of_lem, kinds_of, marks, spelled_among};
 ghost use Rattle.va_rows.specs.Terminals.{spelling_of};
 ghost use Rattle.va_rows.specs.Sets.{va_rules};
 
@@ -10,77 +10,94 @@ use crate::terminal::Terminal;
 use std::alloc::Global;
 use va_base::{Expanded, NoMemory, TokenKind};
 
-/// The keywords (Lexical conventions).
-static KEYWORDS: [Terminal; 36] = [
-    Terminal::Module,
-    Terminal::Endmodule,
-    Terminal::Input,
-    Terminal::Output,
-    Terminal::Inout,
-    Terminal::Nature,
-    Terminal::Endnature,
-    Terminal::Discipline,
-    Terminal::Enddiscipline,
-    Terminal::Potential,
-    Terminal::Flow,
-    Terminal::Domain,
-    Terminal::Branch,
-    Terminal::Parameter,
-    Terminal::Localparam,
-    Terminal::Aliasparam,
-    Terminal::Real,
-    Terminal::Integer,
-    Terminal::From,
-    Terminal::Exclude,
-    Terminal::Inf,
-    Terminal::Analog,
-    Terminal::Function,
-    Terminal::Endfunction,
-    Terminal::Begin,
-    Terminal::End,
-    Terminal::If,
-    Terminal::Else,
-    Terminal::Case,
-    Terminal::Endcase,
-    Terminal::Default,
-    Terminal::For,
-    Terminal::While,
-    Terminal::Repeat,
-    Terminal::InitialStep,
-    Terminal::FinalStep,
+/// The keywords by the number of their bytes, from 0 on (Lexical conventions).
+static KEYWORDS: [&[Terminal]; 14] = [
+    &[],
+    &[],
+    &[Terminal::If],
+    &[Terminal::Inf, Terminal::End, Terminal::For],
+    &[
+        Terminal::Flow,
+        Terminal::Real,
+        Terminal::From,
+        Terminal::Else,
+        Terminal::Case,
+    ],
+    &[
+        Terminal::Input,
+        Terminal::Inout,
+        Terminal::Begin,
+        Terminal::While,
+    ],
+    &[
+        Terminal::Module,
+        Terminal::Output,
+        Terminal::Nature,
+        Terminal::Domain,
+        Terminal::Branch,
+        Terminal::Analog,
+        Terminal::Repeat,
+    ],
+    &[
+        Terminal::Integer,
+        Terminal::Exclude,
+        Terminal::Endcase,
+        Terminal::Default,
+    ],
+    &[Terminal::Function],
+    &[
+        Terminal::Endmodule,
+        Terminal::Endnature,
+        Terminal::Potential,
+        Terminal::Parameter,
+    ],
+    &[
+        Terminal::Discipline,
+        Terminal::Localparam,
+        Terminal::Aliasparam,
+        Terminal::FinalStep,
+    ],
+    &[Terminal::Endfunction],
+    &[Terminal::InitialStep],
+    &[Terminal::Enddiscipline],
 ];
 
-/// The operators and brackets (Operators).
-static MARKS: [Terminal; 29] = [
-    Terminal::LeftParenthesis,
-    Terminal::RightParenthesis,
-    Terminal::LeftBracket,
-    Terminal::RightBracket,
-    Terminal::Comma,
-    Terminal::Semicolon,
-    Terminal::Colon,
-    Terminal::Dot,
-    Terminal::Assign,
-    Terminal::EqualTo,
-    Terminal::NotEqualTo,
-    Terminal::Less,
-    Terminal::LessOrEqual,
-    Terminal::Contribute,
-    Terminal::Greater,
-    Terminal::GreaterOrEqual,
-    Terminal::Plus,
-    Terminal::Minus,
-    Terminal::Times,
-    Terminal::ToThePower,
-    Terminal::DividedBy,
-    Terminal::Modulo,
-    Terminal::Not,
-    Terminal::AndAnd,
-    Terminal::OrOr,
-    Terminal::Question,
-    Terminal::At,
-    Terminal::AttributeOpen,
-    Terminal::AttributeClose,
+/// The operators and brackets by the number of their bytes, from 0 on (Operators).
+static MARKS: [&[Terminal]; 3] = [
+    &[],
+    &[
+        Terminal::LeftParenthesis,
+        Terminal::RightParenthesis,
+        Terminal::LeftBracket,
+        Terminal::RightBracket,
+        Terminal::Comma,
+        Terminal::Semicolon,
+        Terminal::Colon,
+        Terminal::Dot,
+        Terminal::Assign,
+        Terminal::Less,
+        Terminal::Greater,
+        Terminal::Plus,
+        Terminal::Minus,
+        Terminal::Times,
+        Terminal::DividedBy,
+        Terminal::Modulo,
+        Terminal::Not,
+        Terminal::Question,
+        Terminal::At,
+    ],
+    &[
+        Terminal::EqualTo,
+        Terminal::NotEqualTo,
+        Terminal::LessOrEqual,
+        Terminal::Contribute,
+        Terminal::GreaterOrEqual,
+        Terminal::ToThePower,
+        Terminal::AndAnd,
+        Terminal::OrOr,
+        Terminal::AttributeOpen,
+        Terminal::AttributeClose,
+    ],
 ];
 
 /// Whether these bytes spell a kind that has a spelling of its own.
@@ -90,6 +107,28 @@ fn is_spelled(terminal: Terminal, bytes: &[u8]) -> bool
     match terminal.spelling() {
         None => false,
         Some(spelling) => spelling.as_bytes() == bytes,
+    }
+}
+
+/// The keywords of so many bytes.
+fn keywords_of(length: usize) -> &'static [Terminal]
+    ensures { result.now ≡ as_long length keywords }
+{
+    if length < KEYWORDS.len() {
+        KEYWORDS[length]
+    } else {
+        &[]
+    }
+}
+
+/// The operators and brackets of so many bytes.
+fn marks_of(length: usize) -> &'static [Terminal]
+    ensures { result.now ≡ as_long length marks }
+{
+    if length < MARKS.len() {
+        MARKS[length]
+    } else {
+        &[]
     }
 }
 
@@ -110,11 +149,11 @@ fn kind_of(kind: TokenKind, bytes: &[u8]) -> Terminal
     ensures { result ≡ kind_of_lem kind bytes.now }
 {
     match kind {
-        TokenKind::Word => spelled(KEYWORDS.as_slice(), bytes, Terminal::Name),
+        TokenKind::Word => spelled(keywords_of(bytes.len()), bytes, Terminal::Name),
         TokenKind::System => Terminal::System,
         TokenKind::Number => Terminal::Number,
         TokenKind::Text => Terminal::Text,
-        TokenKind::Mark => spelled(MARKS.as_slice(), bytes, Terminal::EndOfText),
+        TokenKind::Mark => spelled(marks_of(bytes.len()), bytes, Terminal::EndOfText),
         TokenKind::Tick | TokenKind::Newline | TokenKind::Bad | TokenKind::End => {
             Terminal::EndOfText
         }

@@ -1,4 +1,4 @@
-use Rattle.std.proofs.Common.{arith, ◌≡◌, ◌∷◌, ◌++◌, []}
+use Rattle.std.proofs.Common.{arith}
 use Rattle.va_grammar.proofs.ListEnds.{two_taken}
 use Rattle.va_grammar.proofs.done.close_if_else.Goals as goal
 

@@ -1,5 +1,5 @@
 use Rattle.std.specs.Option.{is_some}
-use Rattle.std.proofs.Common.{rules, arith, refl, ◌≡◌, ◌+◌, ◌∷◌, ◌++◌, [], ◌∙◌, sym}
+use Rattle.std.proofs.Common.{rules, arith, refl, ◌+◌, ◌∷◌, ◌++◌, [], ◌∙◌, sym}
 use Rattle.va_grammar.specs.Reading.{row_symbols, first_tree, later_trees, trees}
 use Rattle.va_grammar.specs.SourceStatements.{statement, statements, else_branch, case_items, case_item, case_defaults, case_default}
 use Rattle.va_grammar.specs.StatementHeads.{else_statements}

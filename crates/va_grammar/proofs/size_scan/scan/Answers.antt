@@ -8,6 +8,7 @@ use Rattle.va_grammar.specs.SizeDeep.{earlier}
 use Rattle.va_grammar.specs.SizeRows.{links, links_of, rule_of, deep_opened, depth_below, depth_last, due, dues, deep_due, modules_due}
 use Rattle.va_grammar.specs.SizeScan.{AreDerived, many, symbols_due, SameDue, NothingDue, ComesNext}
 use Rattle.va_grammar.specs.declared.size_rules.Due.{Due}
+use Rattle.va_grammar.specs.declared.size_rules.Rule.{Rule}
 use Rattle.va_grammar.proofs.SizeLinks.{from_one, last_first}
 use Rattle.va_grammar.proofs.SizeScan.{opened, deep_step, modules_step, derived_step, same_parts}
 use Rattle.va_grammar.proofs.size_scan.scan.Goals as goal
@@ -33,11 +34,11 @@ loop-node-preserved c =
     (sym (last_first c.loop-node.links.items c.pop.new.self.items link c.in-Some.ensures.items) ∙ known.links ∙ ap links_of more) in
     let below : ℕ = depth_below (rule_of left n.row) depth link in
     let last : ℕ = depth_last (rule_of left n.row) depth in
-    let due_is = c.in_ok-open.ensures.due in
+    let due_is = c.in_ok-open.ensures.due ∙ ap (λ (r : Rule). dues (row_symbols n.row) (depth_below r depth link) (depth_last r depth) ++ ds) c.row_rule-rule.ensures in
     let at_is = c.in_ok-open.ensures.at in
     let old : Option ℕ = c.loop-node.deep in
     let least_is : c.least-deep.result ≡ earlier old (deep_opened (rule_of left n.row) at depth link) =
-    c.least-deep.ensures ∙ ap (earlier old) (c.opened.ensures ∙ ap (λ r. deep_opened r at depth link) c.row_rule.ensures) in
+    c.least-deep.ensures ∙ ap (earlier old) (c.opened.ensures ∙ ap (λ r. deep_opened r at depth link) c.row_rule-rule.ensures) in
     record {
       deep = λ e.
           (λ j. earlier (least_is j) (deep_due e (due_is j) (at_is j) (trees_of rest)))
