@@ -1,16 +1,12 @@
 //! Texts and the source trees that they stand for, worked out by hand. Tokens are counted from 0.
-ghost use Rattle.std.specs.Prelude.{IfOk};
-ghost use Rattle.va_base.specs.Expansion.{IsExpanded};
-
+use crate::outcome::expanded;
 use crate::shown::shown;
 use predict::{ParseErr, parse};
 use std::alloc::Global;
 use std::process::Abort;
 use std::test::Fail;
-use va_base::{Expanded, FileText, Items, Name, Place};
+use va_base::Place;
 use va_grammar::{VaRows, build, kinds};
-use va_io::MemFiles;
-use va_preproc::expand;
 
 /// What stands for `x` in the value of `analog x = ..;`, with the index of its first token: 6.
 const EXPRESSIONS: &str = r#"a => Name{6,'a'}
@@ -97,22 +93,6 @@ module m; analog x = 3 + ; endmodule => Syntax 8
 module m; parameter p = 1 exclude (1) + 2; endmodule => Syntax 11
 module m; => Syntax 3
 x => Syntax 0"#;
-
-/// The tokens of a text after expansion.
-fn expanded(alloc: Global, text: &str) -> Result<Expanded, Fail>
-    ensures { IfOk result (λ e. IsExpanded e) }
-{
-    let file = FileText {
-        name: Name::new("m.va".as_bytes().to_vec(alloc)?),
-        bytes: Items::new(text.as_bytes().to_vec(alloc)?),
-    };
-    let mut files = MemFiles::new(alloc, vec![in alloc; file]?, Vec::new(alloc));
-    Ok(
-        expand(alloc, &mut files, "m.va")
-            .ok()
-            .ok_or("no expansion")?,
-    )
-}
 
 /// The first bad token of a text, by its number and its place, or None where the text is a sentence; its source is built, then.
 pub fn parsed(alloc: Global, text: &str) -> Result<Option<(usize, Place)>, Fail> {
