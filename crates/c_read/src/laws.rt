@@ -6,3 +6,13 @@ ghost use Rattle.c_read.specs.Answers.{OneReading};
 pub fn one_reading()
     ensures { (text : List ℕ) → OneReading text }
 {}
+
+#[cfg(test)]
+mod tests {
+    use super::*;
+
+    #[test]
+    fn laws_hold(_rt: HostRuntime) {
+        one_reading();
+    }
+}

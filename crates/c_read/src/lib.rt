@@ -9,6 +9,4 @@ pub use form::form_fault;
 pub use reading::read;
 
 #[cfg(test)]
-mod samples;
-#[cfg(test)]
 mod tests;

@@ -1,8 +1,8 @@
 //! Tests of reading: whole files worked out by hand.
 use super::*;
-use crate::samples::{DIODE, HEAD, INDUCTOR, POWER, RESISTOR};
 use c_print::print;
 use c_reader::{CErr, tokens};
+use c_runs::{diode, inductor, power, resistor};
 use c_tree::CFile;
 use std::alloc::Global;
 use std::test::Fail;
@@ -58,11 +58,6 @@ entry 0 0 r
 param 0 n integer model \"degree\" \"\"
 ";
 
-/// The whole text of a sample.
-fn whole(alloc: Global, sample: &str) -> Result<String, Fail> {
-    Ok(format!(in alloc; "{HEAD}{sample}")?)
-}
-
 /// The file of a text.
 fn file_of_text(alloc: Global, text: &str) -> Result<CFile, Fail> {
     if text.len() > 100000 {
@@ -92,14 +87,13 @@ fn lengths(alloc: Global, file: &CFile) -> Result<String, Fail> {
 #[test]
 fn files_are_read_and_printed_again(rt: HostRuntime) -> Result<(), Fail> {
     let rows = [
-        (RESISTOR, RESISTOR_TABLES, "8 1 15"),
-        (DIODE, DIODE_TABLES, "13 8 48"),
-        (INDUCTOR, INDUCTOR_TABLES, "5 1 20"),
-        (POWER, POWER_TABLES, "5 1 11 13 0"),
+        (resistor::text(), RESISTOR_TABLES, "8 1 15"),
+        (diode::text(), DIODE_TABLES, "13 8 48"),
+        (inductor::text(), INDUCTOR_TABLES, "5 1 20"),
+        (power::text(), POWER_TABLES, "5 1 11 13 0"),
     ];
-    for (sample, want, counts) in rows {
-        let text = whole(rt.alloc(), sample)?;
-        let file = file_of_text(rt.alloc(), text.as_str())?;
+    for (text, want, counts) in rows {
+        let file = file_of_text(rt.alloc(), text)?;
         let Ok(found) = tables(rt.alloc(), &file) else {
             return Err(Fail::from("no memory"));
         };
@@ -156,11 +150,11 @@ fn changed(alloc: Global, text: &str, old: &str, new: &str) -> Result<(String, u
 
 #[test]
 fn least_tokens_that_break_a_rule(rt: HostRuntime) -> Result<(), Fail> {
-    let sample = whole(rt.alloc(), DIODE)?;
+    let sample = diode::text();
     for line in CHANGES.lines() {
         let (old, rest) = line.split_once(" => ").ok_or("a row without a change")?;
         let (new, number) = rest.split_once(" => ").ok_or("a row without a number")?;
-        let (text, before) = changed(rt.alloc(), sample.as_str(), old, new)?;
+        let (text, before) = changed(rt.alloc(), sample, old, new)?;
         let from_there = number.parse::<usize>().or(Err("no number"))?;
         assert!(rt; before < 100000 && from_there < 100);
         let found = answer_of(rt.alloc(), text.as_str())?;
@@ -172,13 +166,7 @@ fn least_tokens_that_break_a_rule(rt: HostRuntime) -> Result<(), Fail> {
 
 #[test]
 fn bytes_come_before_tokens_and_tokens_before_form(rt: HostRuntime) -> Result<(), Fail> {
-    let sample = whole(rt.alloc(), POWER)?;
-    let (broken, _) = changed(
-        rt.alloc(),
-        sample.as_str(),
-        "if ( ! v2 ) {\nbreak ;\n}\n",
-        "",
-    )?;
+    let (broken, _) = changed(rt.alloc(), power::text(), "if ( ! v2 ) {\nbreak ;\n}\n", "")?;
     let found = answer_of(rt.alloc(), broken.as_str())?;
     assert!(rt; found.as_str().starts_with("form "));
     let bad = format!(in rt.alloc(); "{}x", broken.as_str())?;

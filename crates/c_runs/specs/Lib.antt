@@ -1,0 +1,11 @@
+pub mod Diode
+pub mod DiodeRuns
+pub mod Forms
+pub mod Host
+pub mod Inductor
+pub mod InductorRuns
+pub mod Notation
+pub mod Power
+pub mod PowerRuns
+pub mod Resistor
+pub mod ResistorRuns
