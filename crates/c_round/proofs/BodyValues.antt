@@ -75,7 +75,7 @@ module _ (text : CText) where
       let from = atom_value text (at + 1 + 1 + width (field_name_tree f) + 1) value g t.1.0 in
       λ i. SetCell (let c : CCell = record { level = Model; field = to i } in c) (from i)
 
-  simple_value : (at k : ℕ) (s : CSimple) → is_unsigned k ≡ true → spells_simple s ≡ true → StandsAt text at (simple_words k s)
+  pub simple_value : (at k : ℕ) (s : CSimple) → is_unsigned k ≡ true → spells_simple s ≡ true → StandsAt text at (simple_words k s)
       → given.simple_of (simple_of text (placed at (simple_tree k s))) ≡ s
   unfolding simple_of declared instance_target row_list template
   simple_value at k (Constant ty i side) u h s =
@@ -121,7 +121,7 @@ module _ (text : CText) where
   set_alone at Instance f value rest = refl
   set_alone at Model f value rest = refl
 
-  simple_alone : (at k : ℕ) (s : CSimple) (rest : RawBlock) → statement text at (simple_tree k s) rest ≡ simple (simple_of text (placed at (simple_tree k s))) rest
+  pub simple_alone : (at k : ℕ) (s : CSimple) (rest : RawBlock) → statement text at (simple_tree k s) rest ≡ simple (simple_of text (placed at (simple_tree k s))) rest
   unfolding row_list template
   simple_alone at k (Constant ty i side) rest = refl
   simple_alone at k (Join ty i) rest = refl
@@ -156,11 +156,11 @@ module _ (text : CText) where
       }
 
   -- the words of a statement, and those of the rest
-  next_words : (at : ℕ) (us vs ws : List Word) → StandsAt text at ((us ++ vs) ++ ws) → StandsAt text at us × StandsAt text (at + length us) (vs ++ ws)
+  pub next_words : (at : ℕ) (us vs ws : List Word) → StandsAt text at ((us ++ vs) ++ ws) → StandsAt text at us × StandsAt text (at + length us) (vs ++ ws)
   next_words at us vs ws s = stands_split text at us (vs ++ ws) (subst (λ l. StandsAt text at l) (append_assoc us vs ws) s)
 
   -- the rest of the rest stands behind both
-  next_place : (at n : ℕ) (us vs : List Word) → n ≡ length us → at + n + length vs ≡ at + length (us ++ vs)
+  pub next_place : (at n : ℕ) (us vs : List Word) → n ≡ length us → at + n + length vs ≡ at + length (us ++ vs)
   next_place at n us vs e = omega (arith, e, length-append us vs)
 
   statements_given : (last at k : ℕ) (b : Block) (t : Tree) (ws : List Word) → is_unsigned k ≡ true → spells_block b ≡ true → Writes statements_left t ws

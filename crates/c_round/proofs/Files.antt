@@ -77,7 +77,7 @@ count_few : (passes : ParamKind → Bool) (rows : List ParamRow) → count_kinds
 count_few passes [] = omega arith
 count_few passes (row ∷ rows) = count_step (passes row.kind) (count_kinds passes rows) (length rows) (count_few passes rows)
 
-kinds_counted : (passes : ParamKind → Bool) (rows : List ParamRow) → is_counted rows ≡ true → is_unsigned (count_kinds passes rows) ≡ true
+pub kinds_counted : (passes : ParamKind → Bool) (rows : List ParamRow) → is_counted rows ≡ true → is_unsigned (count_kinds passes rows) ≡ true
 kinds_counted passes rows h =
     let less : length rows < 2 ^ 32 = ltb-true (length rows) (2 ^ 32) h in
     let few = count_few passes rows in

@@ -35,7 +35,7 @@ use Rattle.c_round.proofs.Atoms.{type_tree, type_written, number_tree, number_wr
 use Rattle.c_round.proofs.Bodies.{body_tree, body_written}
 use Rattle.c_round.proofs.Functions.{field_row_pieces, fields_tree, fields_written, argument_pieces, is_argument, more_arguments_tree, more_arguments_written, arguments_tree, arguments_written, instance_test_tree, instance_test_written, flag_pieces, flag_tree, flag_written, access_pieces, access_rows_tree, access_rows_written, instance_written, model_written, found_pieces, function_pieces, functions_words, functions_tree, functions_written, next_counted}
 
-integer_type : (b : Bool) → given.is_integer (field_type b) ≡ b
+pub integer_type : (b : Bool) → given.is_integer (field_type b) ≡ b
 integer_type true = refl
 integer_type false = refl
 
@@ -54,7 +54,7 @@ module _ (text : CText) where
       let rest = fields_value (at + width (type_tree ty) + 1 + 1) list p.1 t.1.1.0 in
       λ i. (let f : FieldRow = record { name = name i; integer = kind i } in f) ∷ rest i
 
-  abbrev given_argument : RawArgument → CArgument
+  abbrev pub given_argument : RawArgument → CArgument
   given_argument a = record { ty = a.ty; number = a.number.value }
 
   abbrev arguments_in : List Placed → List CArgument
@@ -72,7 +72,7 @@ module _ (text : CText) where
       let rest = more_arguments_value (at + 1 + width (type_tree a.ty) + 1) args p.1 t.1.1.0 in
       λ i. (let c : CArgument = record { ty = type_value (at + 1) a.ty i; number = number i } in c) ∷ rest i
 
-  arguments_value : (at : ℕ) (args : List CArgument) → list_all is_argument args ≡ true → StandsAt text at (with_commas argument_words args)
+  pub arguments_value : (at : ℕ) (args : List CArgument) → list_all is_argument args ≡ true → StandsAt text at (with_commas argument_words args)
       → map given_argument (arguments text (placed at (arguments_tree args))) ≡ args
   unfolding arguments argument row_list template
   arguments_value at [] h s = refl

@@ -92,7 +92,7 @@ abbrev pub ◌▹◌ : {A B : Type 0} → A → B → A × B
 a ▹ b = (a, b)
 
 -- the name of a kind of one token
-abbrev is_name : ℕ → Word → Option Word → Bool
+abbrev pub is_name : ℕ → Word → Option Word → Bool
 is_name k w None = false
 is_name k w (Some name) = nat_lt 32 k && bytes_eq w name
 
@@ -114,7 +114,7 @@ abbrev pub fits : ℕ → List Piece → Option Written → Bool
 fits left pieces None = false
 fits left pieces (Some row) = nat_eq left row.left && match row.symbols pieces
 
-abbrev symbols_in : Option Written → List Symbol
+abbrev pub symbols_in : Option Written → List Symbol
 symbols_in None = []
 symbols_in (Some row) = row.symbols
 
@@ -122,7 +122,7 @@ symbols_in (Some row) = row.symbols
 abbrev pub row_tree : ℕ → Pieces → Tree
 row_tree row pieces = node row (parts_of (symbols_in (slice_get row_list row)) (flat pieces))
 
-name_is : (k : ℕ) (w : Word) (name : Option Word) → slice_get name_list k ≡ name → is_name k w name ≡ true → IsWord k w
+pub name_is : (k : ℕ) (w : Word) (name : Option Word) → slice_get name_list k ≡ name → is_name k w name ≡ true → IsWord k w
 unfolding name_alone
 name_is k w None there h = absurd (both_ways false refl h)
 name_is k w (Some name) there h =
@@ -172,7 +172,7 @@ tree_written left t symbols parts us ws tree rest =
       alone = list_all-append is_alone us ws ∙ and_from (list_all is_alone us) (list_all is_alone ws) tree.alone rest.alone;
     }
 
-no_match : {A : Type 0} → false ≡ true → A
+pub no_match : {A : Type 0} → false ≡ true → A
 no_match h = absurd (both_ways false refl h)
 
 pieces_written : (symbols : List Symbol) (pieces : List Piece) → match symbols pieces ≡ true → Shown pieces → PartsWritten symbols (parts_of symbols pieces) (words_of pieces)

@@ -20,10 +20,10 @@ use Rattle.c_round.proofs.Files.{file_tree}
 use Rattle.c_round.proofs.FileValues.{file_value}
 
 -- the text with its tokens
-abbrev text_with : CFile → CText
+abbrev pub text_with : CFile → CText
 text_with f = record { bytes = text_of f; tokens = (c_tokens_of (text_of f)).tokens }
 
-words_stand : (f : CFile) → CanBeSpelled f → StandsAt (text_with f) 0 (words_of f)
+pub words_stand : (f : CFile) → CanBeSpelled f → StandsAt (text_with f) 0 (words_of f)
 words_stand f s =
     let read = print_is_read f s in
     let tokens = tokens_of_words 0 (words_of f) in

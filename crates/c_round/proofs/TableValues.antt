@@ -58,7 +58,7 @@ module _ (text : CText) where
       let rest = nodes_value k (i + 1) list _ u n.1 p.1 t.1.1.1.1.1.1.1.1.0 in
       λ j. (let f : NodeRow = record { name = name j; units = units j; residual_units = residual j; is_flow = flow j } in f) ∷ rest j
 
-  second_value : (at : ℕ) (second : Option ℕ) → spells_second second ≡ true → StandsAt text at (word (second_word second)) → second_node text (placed at (second_tree second)) ≡ second
+  pub second_value : (at : ℕ) (second : Option ℕ) → spells_second second ≡ true → StandsAt text at (word (second_word second)) → second_node text (placed at (second_tree second)) ≡ second
   unfolding second_node row_list template
   second_value at None h s = refl
   second_value at (Some node) h s = ap (λ w. Some (number_of w)) s.0 ∙ ap Some (unsigned_back node h)
@@ -79,12 +79,12 @@ module _ (text : CText) where
       let rest = pairs_value list _ a.1 t.1.0 in
       λ j. (let f : PairRow = record { first = first j; second = second j } in f) ∷ rest j
 
-  resist_value : (at : ℕ) (resist react : Bool) → has_resist (placed at (parts_tree resist react)) ≡ resist
+  pub resist_value : (at : ℕ) (resist react : Bool) → has_resist (placed at (parts_tree resist react)) ≡ resist
   unfolding has_resist
   resist_value at true react = refl
   resist_value at false react = refl
 
-  react_value : (at : ℕ) (resist react : Bool) → (resist || react) ≡ true → has_react (placed at (parts_tree resist react)) ≡ react
+  pub react_value : (at : ℕ) (resist react : Bool) → (resist || react) ≡ true → has_react (placed at (parts_tree resist react)) ≡ react
   unfolding has_react row_list template
   react_value at true true h = refl
   react_value at true false h = refl
@@ -115,7 +115,7 @@ module _ (text : CText) where
       let rest = entries_value k (e + 1) list _ u n.1 p.1 t.1.1.1.0 in
       λ j. (let f : EntryRow = record { row = row j; col = col j; resist = resist j; react = react j } in f) ∷ rest j
 
-  more_strings_value : (at : ℕ) (list : List (List ℕ)) → list_all are_bytes list ≡ true → StandsAt text at (marked (codes ",") named_words list)
+  pub more_strings_value : (at : ℕ) (list : List (List ℕ)) → list_all are_bytes list ≡ true → StandsAt text at (marked (codes ",") named_words list)
       → more_strings text (placed at (more_strings_tree list)) ≡ list
   unfolding more_strings row_list template
   more_strings_value at [] h s = refl
@@ -125,12 +125,12 @@ module _ (text : CText) where
       let rest = more_strings_value (at + 1 + 1) list p.1 s.1.1 in
       λ j. first j ∷ rest j
 
-  param_type_value : (at : ℕ) (b : Bool) → is_integer_param (placed at (param_type_tree b)) ≡ b
+  pub param_type_value : (at : ℕ) (b : Bool) → is_integer_param (placed at (param_type_tree b)) ≡ b
   unfolding is_integer_param
   param_type_value at true = refl
   param_type_value at false = refl
 
-  param_kind_value : (at : ℕ) (kind : ParamKind) → param_kind (placed at (param_kind_tree kind)) ≡ kind
+  pub param_kind_value : (at : ℕ) (kind : ParamKind) → param_kind (placed at (param_kind_tree kind)) ≡ kind
   unfolding param_kind
   param_kind_value at Inst = refl
   param_kind_value at OfModel = refl

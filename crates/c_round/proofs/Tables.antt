@@ -129,7 +129,7 @@ pairs_written (pair ∷ pairs) h =
     row_written pair_rows_left pair_rows_row (line (codes "{") ⋄ part pair_row_left (row_tree pair_row_row pieces) (words pieces)) refl (one, tt)
 
 -- ReactPointer
-abbrev pointer_pieces : ℕ → ℕ → Pieces
+abbrev pub pointer_pieces : ℕ → ℕ → Pieces
 pointer_pieces k e = line (codes "offsetof (") ⋄ named 17 (numbered (codes "inst_") k) ⋄ line (codes ", jq [") ⋄ number_part e ⋄ line (codes "] )")
 
 abbrev pub pointer_tree : ℕ → ℕ → Bool → Tree

@@ -124,14 +124,14 @@ string_back bytes h =
     ap (λ n. string_bytes (take n (inside ++ 34 ∷ []))) count ∙ ap string_bytes (take-append_seam inside (34 ∷ [])) ∙ bytes_back bytes h
 
 -- fields
-field_split : (name ds : List ℕ) (n : ℕ) → list_all is_no_digit name ≡ true → begins is_no_digit ds ≡ false → number_of ds ≡ n
+pub field_split : (name ds : List ℕ) (n : ℕ) → list_all is_no_digit name ≡ true → begins is_no_digit ds ≡ false → number_of ds ≡ n
     → field_in (name ++ ds) ≡ field_lettered name n
 field_split name ds n e b v =
     let letters = front_taken is_no_digit name ds e b in
     let number = digits_behind name ds e ∙ v in
     λ i. field_lettered (letters i) (number i)
 
-no_first : (ds : List ℕ) → begins is_digit ds ≡ true → begins is_no_digit ds ≡ false
+pub no_first : (ds : List ℕ) → begins is_digit ds ≡ true → begins is_no_digit ds ≡ false
 no_first [] h = absurd (true_not_false h refl)
 no_first (d ∷ ds) h = ap not h
 
@@ -186,7 +186,7 @@ written_back ds h some plain small =
     ap decimal (number_of-fold ds)
     ∙ decimal-digits_value model ds h some plain (let same = number_of-fold ds in subst (λ n. n < 2 ^ 64) same small)
 
-number_text_back : (ds : List ℕ) → is_number_text ds ≡ true → (decimal (number_of ds) ≡ ds) × (begins is_digit ds ≡ true)
+pub number_text_back : (ds : List ℕ) → is_number_text ds ≡ true → (decimal (number_of ds) ≡ ds) × (begins is_digit ds ≡ true)
 number_text_back [] h = absurd (true_not_false h refl)
 number_text_back (c ∷ []) h =
     (written_back (c ∷ []) (and_from (is_digit c) true h refl) (omega arith) (λ e. refl) (few c h), h)

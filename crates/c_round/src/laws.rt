@@ -28,3 +28,17 @@ pub fn words_give_back()
 pub fn print_stands_for()
     ensures { PrintStandsFor }
 {}
+
+#[cfg(test)]
+mod tests {
+    use super::*;
+
+    #[test]
+    fn laws_hold(_rt: HostRuntime) {
+        words_are_read();
+        print_is_read();
+        print_is_syntax();
+        words_give_back();
+        print_stands_for();
+    }
+}

@@ -1,0 +1,14 @@
+pub mod Alike
+pub mod Trees
+pub mod LocalRules
+pub mod FieldRules
+pub mod ReachRules
+pub mod TypeRules
+pub mod TableRules
+pub mod Places
+pub mod FieldNames
+pub mod Repeats
+pub mod Forced
+pub mod ForcedFiles
+pub mod FilesBack
+pub mod Files

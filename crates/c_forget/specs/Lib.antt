@@ -1,0 +1,3 @@
+pub mod Forget
+pub mod Laws
+pub mod Worked
