@@ -1,0 +1,13 @@
+pub mod Rows
+pub mod Tokens
+pub mod WordKinds
+pub mod Numbers
+pub mod Names
+pub mod Strings
+pub mod Atoms
+pub mod Statements
+pub mod Functions
+pub mod Tables
+pub mod Counts
+pub mod Modules
+pub mod Spelled
