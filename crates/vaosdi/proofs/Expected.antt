@@ -10,9 +10,10 @@ use Rattle.va_preproc.specs.Expansion.{Expansion, lacking, faulty, expanded, exp
 use Rattle.va_preproc.specs.Reading.{Stop}
 use Rattle.vaosdi.specs.declared.status.Status.{Status}
 use Rattle.vaosdi.specs.declared.status.Status.TheVariants.{Done, Refused, Usage, NoFile, ReadFault, WriteFault, NoMemory}
-use Rattle.vaosdi.specs.Requests.{Request, compile, IsRequest, IsNoRequest}
+use Rattle.vaosdi.specs.Requests.{Request, compile, read, IsRequest, IsNoRequest}
 use Rattle.vaosdi.specs.Answers.{Seen, IsDue, IsDueFor, IsExpected, Ends, Expands, IsBuilt, IsRefused}
-use Rattle.vaosdi.proofs.Asking.{same_file}
+use Rattle.vaosdi.proofs.Asking.{same_file, two_requests}
+use Rattle.vaosdi.proofs.ExpectedRead.{read_done, read_refused, read_missing}
 use Rattle.vaosdi.proofs.AskedNames.{lacks_main}
 use Rattle.vaosdi.proofs.Fronts.{fault_not_built}
 
@@ -60,10 +61,13 @@ module _ {V : Type 0} (o : Operations V) (valid : V → Type 0) (h : Holdings) (
   when_done : (text : List ℕ) (request : Request) → IsRequest words request → IsDueFor (Some h) files o valid request Done text → (expected : Status)
       → IsExpected (Some h) words expected → (Done ≡ expected) ⊎ (Done ≡ NoMemory)
   when_done text (compile file) r d Done e = inl refl
-  when_done text (compile file) r (e, (is, (names, x, f, asks)), c) Refused (other, q, k) =
+  when_done text (compile file) r (e, (is, (names, x, f, asks)), c) Refused (inl (other, q, k)) =
       absurd (not_refused file e (names, x, f) (c.source, c.within, (c.translation.form, c.translation.parts)) (of_file (IsRefused h) file other r q k))
-  when_done text (compile file) r (e, (is, (names, x, f, asks)), c) NoFile (other, q, k) =
+  when_done text (compile file) r (e, (is, (names, x, f, asks)), c) NoFile (inl (other, q, k)) =
       absurd (not_expanded file e (of_file (λ name. held h name ≡ None) file other r q k) (names, x, f))
+  when_done text (compile file) r d Refused (inr (other, q, k)) = absurd (two_requests words file other r q)
+  when_done text (compile file) r d NoFile (inr (other, q, k)) = absurd (two_requests words file other r q)
+  when_done text (read file) r d expected e = read_done o valid h files words steady file r text d expected e
   when_done text (compile file) r d Usage none = absurd (none (compile file) r)
   when_done text (compile file) r d ReadFault e = absurd e
   when_done text (compile file) r d WriteFault e = absurd e
@@ -77,11 +81,14 @@ module _ {V : Type 0} (o : Operations V) (valid : V → Type 0) (h : Holdings) (
 
   when_refused : (text : List ℕ) (request : Request) → IsRequest words request → IsDueFor (Some h) files o valid request Refused text → (expected : Status)
       → IsExpected (Some h) words expected → (Refused ≡ expected) ⊎ (Refused ≡ NoMemory)
-  when_refused text (compile file) r d Done (other, q, (e, x, t)) =
+  when_refused text (compile file) r d Done (inl (other, q, (e, x, t))) =
       absurd (not_refused file e (of_file (λ name. Expands h name e) file other r q x) t (refused_by file text d))
   when_refused text (compile file) r d Refused e = inl refl
-  when_refused text (compile file) r d NoFile (other, q, k) =
+  when_refused text (compile file) r d NoFile (inl (other, q, k)) =
       absurd (lacking_not_refused file (of_file (λ name. held h name ≡ None) file other r q k) (refused_by file text d))
+  when_refused text (compile file) r d Done (inr (other, q, k)) = absurd (two_requests words file other r q)
+  when_refused text (compile file) r d NoFile (inr (other, q, k)) = absurd (two_requests words file other r q)
+  when_refused text (read file) r d expected e = read_refused o valid h files words steady file r text d expected e
   when_refused text (compile file) r d Usage none = absurd (none (compile file) r)
   when_refused text (compile file) r d ReadFault e = absurd e
   when_refused text (compile file) r d WriteFault e = absurd e
@@ -89,13 +96,16 @@ module _ {V : Type 0} (o : Operations V) (valid : V → Type 0) (h : Holdings) (
 
   when_missing : (text : List ℕ) (request : Request) → IsRequest words request → IsDueFor (Some h) files o valid request NoFile text → (expected : Status)
       → IsExpected (Some h) words expected → (NoFile ≡ expected) ⊎ (NoFile ≡ NoMemory)
-  when_missing text (compile file) r ((inl k, asks), l) Done (other, q, (e, x, f)) =
+  when_missing text (compile file) r ((inl k, asks), l) Done (inl (other, q, (e, x, f))) =
       absurd (not_expanded file e k (of_file (λ name. Expands h name e) file other r q x))
-  when_missing text (compile file) r ((inl k, asks), l) Refused (other, q, x) =
+  when_missing text (compile file) r ((inl k, asks), l) Refused (inl (other, q, x)) =
       absurd (lacking_not_refused file k (of_file (IsRefused h) file other r q x))
-  when_missing text (compile file) r ((inr k, asks), l) Done e = absurd (steady k)
-  when_missing text (compile file) r ((inr k, asks), l) Refused e = absurd (steady k)
+  when_missing text (compile file) r ((inr k, asks), l) Done (inl e) = absurd (steady k)
+  when_missing text (compile file) r ((inr k, asks), l) Refused (inl e) = absurd (steady k)
   when_missing text (compile file) r d NoFile e = inl refl
+  when_missing text (compile file) r d Done (inr (other, q, k)) = absurd (two_requests words file other r q)
+  when_missing text (compile file) r d Refused (inr (other, q, k)) = absurd (two_requests words file other r q)
+  when_missing text (read file) r d expected e = read_missing o valid h files words steady file r text d expected e
   when_missing text (compile file) r d Usage none = absurd (none (compile file) r)
   when_missing text (compile file) r d ReadFault e = absurd e
   when_missing text (compile file) r d WriteFault e = absurd e
@@ -103,9 +113,12 @@ module _ {V : Type 0} (o : Operations V) (valid : V → Type 0) (h : Holdings) (
 
   when_usage : (text : List ℕ) → IsDue (Some h) files o valid words Usage text → (expected : Status)
       → IsExpected (Some h) words expected → (Usage ≡ expected) ⊎ (Usage ≡ NoMemory)
-  when_usage text (none, u, l) Done (file, r, e) = absurd (none (compile file) r)
-  when_usage text (none, u, l) Refused (file, r, e) = absurd (none (compile file) r)
-  when_usage text (none, u, l) NoFile (file, r, e) = absurd (none (compile file) r)
+  when_usage text (none, u, l) Done (inl (file, r, e)) = absurd (none (compile file) r)
+  when_usage text (none, u, l) Done (inr (file, r, e)) = absurd (none (read file) r)
+  when_usage text (none, u, l) Refused (inl (file, r, e)) = absurd (none (compile file) r)
+  when_usage text (none, u, l) Refused (inr (file, r, e)) = absurd (none (read file) r)
+  when_usage text (none, u, l) NoFile (inl (file, r, e)) = absurd (none (compile file) r)
+  when_usage text (none, u, l) NoFile (inr (file, r, e)) = absurd (none (read file) r)
   when_usage text d Usage e = inl refl
   when_usage text d ReadFault e = absurd e
   when_usage text d WriteFault e = absurd e
@@ -144,9 +157,12 @@ pub as_expected : {V : Type 0} (o : Operations V) (valid : V → Type 0) (holds 
 as_expected o valid (Some h) files words out err result ends expected e a b c =
     as_told o valid h files words out err a b c result ends expected e
 as_expected o valid None files words out err result ends Usage e a b c = as_no_request o valid None files words out err result ends e b c
-as_expected o valid None files words out err result ends Done e a b c = absurd e.2
-as_expected o valid None files words out err result ends Refused e a b c = absurd e.2
-as_expected o valid None files words out err result ends NoFile e a b c = absurd e.2
+as_expected o valid None files words out err result ends Done (inl e) a b c = absurd e.2
+as_expected o valid None files words out err result ends Done (inr e) a b c = absurd e.2
+as_expected o valid None files words out err result ends Refused (inl e) a b c = absurd e.2
+as_expected o valid None files words out err result ends Refused (inr e) a b c = absurd e.2
+as_expected o valid None files words out err result ends NoFile (inl e) a b c = absurd e.2
+as_expected o valid None files words out err result ends NoFile (inr e) a b c = absurd e.2
 as_expected o valid None files words out err result ends ReadFault e a b c = absurd e
 as_expected o valid None files words out err result ends WriteFault e a b c = absurd e
 as_expected o valid None files words out err result ends NoMemory e a b c = absurd e

@@ -5,3 +5,5 @@ pub mod Expected
 pub mod Reading
 pub mod AskedNames
 pub mod Dues
+pub mod CFiles
+pub mod ExpectedRead

@@ -14,8 +14,9 @@ use Rattle.va_io.specs.Outside.{Holdings, held, Lacks, Appends, AppendsSome, Ros
 use Rattle.va_preproc.specs.Answers.{Seen as FilesSeen, AsksFor, CountsFault, AreFirst, WhereTold, IsExpansion, IsFirstFault, IsMissed}
 use Rattle.va_preproc.specs.Expansion.{limits, expansion, expanded, faulty, texts}
 use Rattle.va_preproc.specs.Reading.{Stop}
+use Rattle.vaosdi.specs.CFiles.{IsDueOfText, ReadEnds}
 use Rattle.vaosdi.specs.Faults.{fault_line, HasTextFault}
-use Rattle.vaosdi.specs.Requests.{Request, compile, IsRequest, IsNoRequest, reads_of}
+use Rattle.vaosdi.specs.Requests.{Request, compile, read, IsRequest, IsNoRequest, reads_of}
 use Rattle.vaosdi.specs.declared.status.Status.{Status}
 use Rattle.vaosdi.specs.declared.status.Status.TheVariants.{Done, Refused, Usage, NoFile, ReadFault, WriteFault, NoMemory}
 
@@ -56,14 +57,17 @@ module _ (holds : Option Holdings) (files : FilesSeen) where
   -- the output of a request
   abbrev pub IsOutput : {V : Type 0} → Operations V → (V → Type 0) → Request → List ℕ → Type 0
   IsOutput o valid (compile file) text = (e : Expanded) × IsSource file e × IsCompiled o valid e text
+  IsOutput o valid (read file) text = IsDueOfText holds files file Done text
 
   -- the line for the fault that stands in what a request reads
   abbrev pub IsFaultLine : Request → List ℕ → Type 0
   IsFaultLine (compile file) text = (name : List ℕ) × (fault : Fault) × HasFault file name fault × (text ≡ fault_line name fault)
+  IsFaultLine (read file) text = IsDueOfText holds files file Refused text
 
   -- the line for a file that is read by the words themselves, not by an include, and is not there
   abbrev pub IsLackLine : Request → List ℕ → Type 0
   IsLackLine (compile file) text = IsLacking file × (text ≡ file ++ codes ": no such file\n")
+  IsLackLine (read file) text = IsLacking file × (text ≡ file ++ codes ": no such file\n")
 
   -- The text that is due where a request ends with a status: an output, or the reason why there is none.
   module _ {V : Type 0} (o : Operations V) (valid : V → Type 0) where
@@ -175,14 +179,21 @@ abbrev pub IsRefused : Holdings → List ℕ → Type 0
 IsRefused holds file =
     ((stop : Stop) × (expansion holds file ≡ faulty stop)) ⊎ ((e : Expanded) × Expands holds file e × (IsBuilt e → ⊥))
 
+-- the tables of a C file are asked for, and it is told that this is how it ends
+abbrev pub IsExpectedRead : Option Holdings → List (List ℕ) → Status → Type 0
+IsExpectedRead holds words status = (file : List ℕ) × IsRequest words (read file) × Tells holds (λ h. ReadEnds h file status)
+
 -- What is told of the files and the words decides how a command ends where no count rose, but for want of memory. Words
 -- that make no request need nothing told.
 abbrev pub IsExpected : Option Holdings → List (List ℕ) → Status → Type 0
 IsExpected holds words Done =
-    (file : List ℕ) × IsRequest words (compile file)
-    × Tells holds (λ h. (e : Expanded) × Expands h file e × IsBuilt e)
-IsExpected holds words Refused = (file : List ℕ) × IsRequest words (compile file) × Tells holds (λ h. IsRefused h file)
-IsExpected holds words NoFile = (file : List ℕ) × IsRequest words (compile file) × Tells holds (λ h. held h file ≡ None)
+    ((file : List ℕ) × IsRequest words (compile file)
+    × Tells holds (λ h. (e : Expanded) × Expands h file e × IsBuilt e))
+    ⊎ IsExpectedRead holds words Done
+IsExpected holds words Refused =
+    ((file : List ℕ) × IsRequest words (compile file) × Tells holds (λ h. IsRefused h file)) ⊎ IsExpectedRead holds words Refused
+IsExpected holds words NoFile =
+    ((file : List ℕ) × IsRequest words (compile file) × Tells holds (λ h. held h file ≡ None)) ⊎ IsExpectedRead holds words NoFile
 IsExpected holds words Usage = IsNoRequest words
 IsExpected holds words ReadFault = ⊥
 IsExpected holds words WriteFault = ⊥

@@ -1,4 +1,5 @@
 pub mod Answers
+pub mod CFiles
 pub mod Commands
 pub mod Faults
 pub mod Requests

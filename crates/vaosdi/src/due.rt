@@ -9,6 +9,7 @@ ghost use Rattle.vaosdi.specs.Answers.{IsDue, IsDueFor, IsDueOfSource, usage_lin
 use crate::compile::c_text;
 use crate::fault_line::{fault_line, file_name};
 use crate::front::FrontErr;
+use crate::read_file::read_tables;
 use crate::request::{Command, command_of};
 use crate::status::Status;
 use alg_laws::Algebra;
@@ -46,6 +47,7 @@ pub fn due_for<A: Algebra, F: Files>(
 {
     match command_of(words) {
         Some(Command::Compile(file)) => compile(alloc, law, file, files),
+        Some(Command::Read(file)) => read_tables(alloc, law, file, files),
         None => usage(alloc),
     }
 }
@@ -61,7 +63,12 @@ fn usage(alloc: Global) -> Result<Due, NoMemory>
 }
 
 /// A reason that begins with a file's name.
-fn complaint(alloc: Global, status: Status, name: &[u8], reason: &str) -> Result<Due, NoMemory>
+pub(crate) fn complaint(
+    alloc: Global,
+    status: Status,
+    name: &[u8],
+    reason: &str,
+) -> Result<Due, NoMemory>
     ensures { IfOk result (λ due. (due.status ≡ status) × (due.text.items ≡ name.now ++ reason.now)) }
 {
     let mut text = Vec::from_slice(alloc, name)?;
@@ -70,7 +77,7 @@ fn complaint(alloc: Global, status: Status, name: &[u8], reason: &str) -> Result
 }
 
 /// The reason where there is no file of the name that the words give.
-fn no_such_file(alloc: Global, file: &str) -> Result<Due, NoMemory>
+pub(crate) fn no_such_file(alloc: Global, file: &str) -> Result<Due, NoMemory>
     ensures { IfOk result
         (λ due. (due.status ≡ Status.NoFile) × (due.text.items ≡ file.now ++ codes ": no such file\n")) }
 {

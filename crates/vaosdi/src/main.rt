@@ -6,6 +6,7 @@ mod compile;
 mod due;
 mod fault_line;
 mod front;
+mod read_file;
 mod request;
 pub mod status;
 #[cfg(test)]

@@ -9,7 +9,7 @@ use std::test::Fail;
 use va_base::{FileText, Items, Name};
 use va_io::{MemFiles, MemSink};
 
-const RESISTOR: &str =
+pub(crate) const RESISTOR: &str =
     "module m(a, c); inout a, c; electrical a, c; parameter real r = 1; analog I(a, c) <+ V(a, c) / r; endmodule";
 
 /// A nature's header file.
@@ -30,7 +30,7 @@ const USAGE: &str =
 
 /// How a command ended, and what it wrote.
 #[derive(Drop)]
-struct Answer {
+pub(crate) struct Answer {
     status: Status,
     out: Vec<u8>,
     err: Vec<u8>,
@@ -38,14 +38,14 @@ struct Answer {
 
 /// The calls that fail, by their numbers from 1 (0 for none), and the most bytes that one write takes.
 #[derive(Clone, Copy)]
-struct Faults {
+pub(crate) struct Faults {
     read: u64,
     out: u64,
     err: u64,
     take: usize,
 }
 
-const NONE: Faults = Faults {
+pub(crate) const NONE: Faults = Faults {
     read: 0,
     out: 0,
     err: 0,
@@ -60,7 +60,7 @@ fn file(alloc: Global, name: &str, text: &[u8]) -> Result<FileText, AllocError> 
 }
 
 /// Runs a command, its words parted by single spaces, on these files.
-fn answer_over(
+pub(crate) fn answer_over(
     alloc: Global,
     command: &str,
     list: Vec<FileText>,
@@ -84,7 +84,7 @@ fn answer_over(
 }
 
 /// Runs a command where `m.va` holds a text.
-fn answer_to(
+pub(crate) fn answer_to(
     alloc: Global,
     command: &str,
     text: &[u8],
@@ -95,7 +95,7 @@ fn answer_to(
 }
 
 /// Whether a command ended with this line as its reason, or, where the line is empty, with its output.
-fn assert_ends(rt: &impl Abort, end: &Answer, line: &str, what: &str) {
+pub(crate) fn assert_ends(rt: &impl Abort, end: &Answer, line: &str, what: &str) {
     let mut reason = end.err.as_slice();
     if let Some((last, front)) = reason.split_last() {
         assert_eq!(rt; *last, b'\n', "{what}");
@@ -131,8 +131,36 @@ const BAD_TOKEN: &str = "m.va:1:1: BadToken\n";
 const UNDECLARED: &str =
     "module m(a, c); inout a, c; electrical a, c; parameter real r = 1; analog I(a, c) <+ V(a, c) / q; endmodule";
 
+/// A C file without modules that tells of one.
+const ONE_MISSING: &str = r##"#include "osdi_0_3.h"
+#include <math.h>
+#include <stddef.h>
+#include <stdint.h>
+#include <stdlib.h>
+static void init_error ( OsdiInitInfo * res , uint32_t id ) {
+OsdiInitError * more = realloc ( res -> errors , ( res -> num_errors + 1u ) * sizeof ( OsdiInitError ) ) ;
+if ( more ) {
+more [ res -> num_errors ] = ( OsdiInitError ) {
+.code = INIT_ERR_OUT_OF_BOUNDS , .payload.parameter_id = id }
+;
+res -> errors = more ;
+res -> num_errors = res -> num_errors + 1u ;
+}
+}
+static void load_nothing ( void * ip , void * mp , double * dst ) {
+}
+const uint32_t OSDI_VERSION_MAJOR = 0u ;
+const uint32_t OSDI_VERSION_MINOR = 3u ;
+const uint32_t OSDI_NUM_DESCRIPTORS = 1u ;
+const OsdiDescriptor OSDI_DESCRIPTORS [ ] = {
+{
+0 }
+}
+;
+"##;
+
 /// Each command with the text of `m.va`, the status that is wanted, and the reason.
-const COMMANDS: [(&str, &str, Status, &str); 19] = [
+const COMMANDS: [(&str, &str, Status, &str); 23] = [
     ("compile m.va", RESISTOR, Status::Done, ""),
     ("compile m.va", UNDECLARED, Status::Refused, UNBUILT),
     ("compile m.va", "", Status::Refused, UNBUILT),
@@ -153,7 +181,26 @@ const COMMANDS: [(&str, &str, Status, &str); 19] = [
     ("m.va compile", RESISTOR, Status::Usage, USAGE),
     ("check m.va", RESISTOR, Status::Usage, USAGE),
     ("tables m.va", RESISTOR, Status::Usage, USAGE),
-    ("read m.va", RESISTOR, Status::Usage, USAGE),
+    ("read m.va", RESISTOR, Status::Refused, "m.va:1:1: Syntax\n"),
+    ("read m.va", "@", Status::Refused, "m.va:1:1: BadByte\n"),
+    (
+        "read m.va",
+        "#include \"osdi_0_3.h\"\n",
+        Status::Refused,
+        "m.va:2:1: Syntax\n",
+    ),
+    (
+        "read m.va",
+        ONE_MISSING,
+        Status::Refused,
+        "m.va:20:39: CForm\n",
+    ),
+    (
+        "read none.va",
+        RESISTOR,
+        Status::NoFile,
+        "none.va: no such file\n",
+    ),
     ("eval m.va p.txt", RESISTOR, Status::Usage, USAGE),
     ("make 1", RESISTOR, Status::Usage, USAGE),
     ("work 1", RESISTOR, Status::Usage, USAGE),
@@ -167,6 +214,17 @@ fn commands_end_with_their_reasons(rt: HostRuntime) -> Result<(), Fail> {
         assert_eq!(rt; end.err.as_slice(), reason.as_bytes(), "{command}");
         assert_eq!(rt; end.out.is_empty(), status != Status::Done, "{command}");
     }
+    Ok(())
+}
+
+/// A C file without modules has no tables.
+#[test]
+fn c_files_are_read(rt: HostRuntime) -> Result<(), Fail> {
+    let (before, after) = ONE_MISSING.split_once("= 1u").ok_or("no number")?;
+    let text = format!(in rt.alloc(); "{before}= 0u{after}")?;
+    let end = answer_to(rt.alloc(), "read m.va", text.as_bytes(), NONE)?;
+    assert_eq!(rt; end.status, Status::Done);
+    assert!(rt; end.out.is_empty() && end.err.is_empty());
     Ok(())
 }
 
@@ -329,7 +387,7 @@ endmodule
 ~compile m.va>m.va:1:1: IncludeDeep@m.va:`include \"m.va\"
 ";
 
-fn row_files(alloc: Global, row: &str) -> Result<Vec<FileText>, Fail> {
+pub(crate) fn row_files(alloc: Global, row: &str) -> Result<Vec<FileText>, Fail> {
     let mut list = Vec::new(alloc);
     for part in row.split('@').skip(1) {
         let (name, text) = part.split_once(':').ok_or("a file without a name")?;
