@@ -1,6 +1,7 @@
 -- The steps of a walk along what follows a declaration.
 use Rattle.std.proofs.Common.{◌≡◌, ◌<◌, ◌≤◌, ◌+◌, ◌-◌, ℕ, List, [], ◌∷◌, ◌++◌, length, get_or, take, drop, drop-cons, length-drop, refl, ap, sym, ◌∙◌, add-one, arith}
 use Rattle.std.specs.Prelude.{map, Option, Bool, true, false, not, if◌then◌else◌}
+use Rattle.std.specs.List.{flat_map}
 use Rattle.std.proofs.lemmas.List.{take_all}
 use Rattle.std.proofs.Math.ListN.{drop_of_length-le}
 use Rattle.c_tree.specs.declared.body.CAtom.{CAtom}
@@ -10,10 +11,10 @@ use Rattle.c_raw.specs.declared.body.RawStatement.{RawStatement}
 use Rattle.c_raw.specs.declared.token.At.{At}
 use Rattle.c_form.specs.Blames.{Blames}
 use Rattle.c_form.specs.OpenBlocks.{innermost_first}
-use Rattle.c_form.proofs.Blaming.{◌▸◌, blames_as, blames_none, next-is}
+use Rattle.c_form.proofs.Blaming.{◌▸◌, blames_as, blames_none}
 use Rattle.c_form.proofs.Open.{innermost-push}
 use Rattle.c_settings.specs.declared.duty.Duty.{Duty}
-use Rattle.c_settings.specs.Walks.{due_flat, statement_flat, settings_flat}
+use Rattle.c_settings.specs.Walks.{due_flat}
 use Rattle.c_settings.proofs.Uses.{reads-append}
 
 pub unless-not : (b : Bool) (at : ℕ) → (if not b then [] else at ∷ []) ≡ (if b then at ∷ [] else [])
@@ -58,20 +59,13 @@ pub no-duties : (dues : List Duty) → length dues ≡ 0 → dues ≡ []
 no-duties [] e = refl
 no-duties (due ∷ dues) e = let no : ⊥ = omega (arith, e) in absurd no
 
--- nothing is blamed any more
-pub due-over : (old : Option ℕ) (i : ℕ) (dues seen : List Duty) (rest : List RawStatement) → seen ≡ dues
-    → due_flat i (innermost_first seen) rest ≡ [] → Blames old old (due_flat i (innermost_first dues) rest)
-due-over old i dues seen rest e none = blames_as (blames_none old) (sym (sym (ap (λ d. due_flat i (innermost_first d) rest) e) ∙ none))
-
 -- the rest of a list, taken whole
 pub rest-is : {T : Type 0} (n : ℕ) (list : List T) → take (length list - n) (drop n list) ≡ drop n list
 rest-is n list = take_all (length list - n) (drop n list) (rw (length-drop n list) (omega arith))
 
--- a statement at a place, and those behind it
-pub settings-at : (old mid new : Option ℕ) (list rest : List RawStatement) (k : ℕ) (s : RawStatement) → k < length list → s ≡ get_or list k s
-    → rest ≡ drop (k + 1) list → Blames old mid (statement_flat s rest)
-    → Blames mid new (settings_flat (drop (k + 1) list)) → Blames old new (settings_flat (drop k list))
-settings-at old mid new list rest k s h e f a b = rw (next-is list k s h e) (rw f at a ▸ b)
-
-pub settings-last : (old : Option ℕ) (list : List RawStatement) (k : ℕ) → length list ≤ k → Blames old old (settings_flat (drop k list))
-settings-last old list k h = rw (drop_of_length-le list h) (blames_none old)
+-- an element at a place, and those behind it
+pub blames-here : {T : Type 0} (part : T → List ℕ) (old mid new : Option ℕ) (elements : List T) (k : ℕ) (d : T) → k < length elements
+    → Blames old mid (part (get_or elements k d)) → Blames mid new (flat_map part (drop (k + 1) elements)) → Blames old new (flat_map part (drop k elements))
+blames-here part old mid new elements k d h a b =
+    let front : drop k elements ≡ get_or elements k d ∷ drop (k + 1) elements = rw add-one (drop-cons elements k d h) in
+    rw front (a ▸ b)

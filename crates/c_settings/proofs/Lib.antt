@@ -3,4 +3,13 @@ pub mod Uses
 pub mod Due
 pub mod Flat
 pub mod Following
-pub mod Ending
+pub mod Stacks
+pub mod Changes
+pub mod Telling
+pub mod Covering
+pub mod Moving
+pub mod Bounding
+pub mod Keeping
+pub mod Using
+pub mod Declaring
+pub mod Again

@@ -1,4 +1,5 @@
 pub mod Duties
 pub mod Walks
-pub mod Ends
 pub mod Starts
+pub mod States
+pub mod Passes

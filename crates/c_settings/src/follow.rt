@@ -1,27 +1,28 @@
-//! What a declaration blames in the statements that follow it.
-ghost use Rattle.std.specs.Prelude.{◌≡◌, ◌∷◌, [], ◌++◌, ℕ, List, Option, IfOk, OnOk, drop, map, nat_eq, true};
-ghost use Rattle.indexmap.specs.IndexMap.{get};
+//! What one declaration blames in the statements that follow it, by a walk of its own.
+ghost use Rattle.std.specs.Prelude.{◌≡◌, ◌∷◌, [], ◌++◌, ◌+◌, ℕ, List, Option, IfSome, OnOk, Some, if◌then◌else◌, length, map, true};
 ghost use Rattle.c_tree.specs.rules.Bodies.{atoms_of_right, atoms_of_simple, tokens_of};
 ghost use Rattle.c_tree.specs.rules.Settings.{first_counts, reads, sets};
 ghost use Rattle.c_raw.specs.Blocks.{at_view, right_view, simple_view};
 ghost use Rattle.c_raw.specs.declared.body.RawStatement.{RawStatement as SpecStatement};
 ghost use Rattle.c_form.specs.Blames.{Blames};
-ghost use Rattle.c_form.specs.OpenBlocks.{innermost_first};
+ghost use Rattle.c_form.specs.OpenBlocks.{innermost_first, open_behind};
+ghost use Rattle.c_settings.specs.declared.duty.Duty.{Duty as SpecDuty};
+ghost use Rattle.c_settings.specs.declared.duty.Duty.TheVariants as due;
 ghost use Rattle.c_settings.specs.Duties.{behind_if as behind_if_lem, behind_loop as behind_loop_lem, behind_sets, behind_simple, in_arm as in_arm_lem, in_loop as in_loop_lem, reads_under, simple_under, wants_setting as wants_setting_lem};
-ghost use Rattle.c_settings.specs.Ends.{SetsEndBehind, sets_among};
-ghost use Rattle.c_settings.specs.Starts.{start_flat};
-ghost use Rattle.c_settings.specs.Walks.{declaration_flat, due_flat, statement_flat};
+ghost use Rattle.c_settings.specs.Starts.{Follows, start_flat};
+ghost use Rattle.c_settings.specs.States.{size};
+ghost use Rattle.c_settings.specs.Walks.{declaration_flat, due_flat};
 
 use crate::duty::{
     Duty, behind_break, behind_if, behind_loop, behind_setting, in_arm, in_loop, is_unread,
     is_unset, lacks_setting, wants_setting,
 };
-use crate::ends::count_behind;
+use crate::state::{State, inmost};
 use c_form::blame::blame_unless;
 use c_raw::{At, RawRight, RawSimple, RawStatement};
 use c_tree::CAtom;
-use indexmap::IndexMap;
 use std::alloc::{AllocError, Global};
+use va_base::NoMemory;
 
 /// An atom that reads a local.
 fn atom_read(least: &mut Option<usize>, number: u32, atom: At<CAtom>)
@@ -167,9 +168,11 @@ fn step(
     number: u32,
     statement: &RawStatement,
 ) -> Result<(), AllocError>
-    ensures { OnOk result ((new : Option ℕ) (rest : List SpecStatement)
+    ensures blames { OnOk result ((new : Option ℕ) (rest : List SpecStatement)
         → Blames least.new new (due_flat number (innermost_first duties.new.items) rest)
         → Blames least.old new (due_flat number (innermost_first duties.old.items) (statement.now ∷ rest))) }
+    ensures open { OnOk result ((around : ℕ) → length (innermost_first duties.old.items) ≡ around + 1
+        → length (innermost_first duties.new.items) ≡ open_behind around statement.now) }
 {
     let Some(duty) = duties.pop() else {
         return Ok(());
@@ -203,10 +206,16 @@ fn step(
     }
 }
 
+/// A local that a statement declares.
+#[derive(Clone, Copy, Drop)]
+pub struct Start {
+    pub number: u32,
+    pub state: State,
+}
+
 /// Only the block of the declaration is open, and all that is due is that the local isn't set.
 fn is_settled(duties: &[Duty]) -> bool
-    ensures { (i : ℕ) (rest : List SpecStatement) → result ≡ true → sets_among i rest ≡ []
-        → due_flat i (innermost_first duties.now) rest ≡ [] }
+    ensures { result ≡ true → duties.now ≡ due.Unset ∷ [] }
 {
     let [duty] = duties else {
         return false;
@@ -214,24 +223,24 @@ fn is_settled(duties: &[Duty]) -> bool
     is_unset(*duty)
 }
 
-/// Follows a local through the rest of its block. Behind so many statements it isn't set again.
-fn follow(
+/// Follows a local through the rest of its block. Where its number isn't to be set anyhow, only up to where the same is due of it.
+pub fn follow(
     alloc: Global,
     least: &mut Option<usize>,
     start: Start,
     rest: &[RawStatement],
-    count: usize,
-) -> Result<(), AllocError>
-    requires { sets_among start.number (drop count rest.now) ≡ [] }
-    ensures { OnOk result (Blames least.old least.new (due_flat start.number (start.duty ∷ []) rest.now)) }
+    unset: bool,
+) -> Result<(), NoMemory>
+    ensures { OnOk result ((outer : List SpecDuty) → Follows least.old least.new (start_flat (Some start) rest.now)
+        (if unset then due_flat start.number (due.Unset ∷ outer) rest.now else [])) }
 {
     let mut duties = Vec::new(alloc);
-    duties.push(start.duty)?;
-    for (index, statement) in rest.iter().enumerate() {
+    duties.push(inmost(start.state))?;
+    for statement in rest {
         if duties.is_empty() {
             return Ok(());
         }
-        if count <= index && is_settled(&duties) {
+        if unset && is_settled(&duties) {
             return Ok(());
         }
         step(least, &mut duties, start.number, statement)?;
@@ -239,54 +248,19 @@ fn follow(
     Ok(())
 }
 
-/// A local that was declared, with what is due of it behind its declaration.
-#[derive(Clone, Copy, Drop)]
-pub struct Start {
-    pub number: u32,
-    pub duty: Duty,
-}
-
-fn declared_in(statement: &RawSimple) -> Option<Start>
-    ensures { (rest : List SpecStatement) → declaration_flat statement.now rest ≡ start_flat result rest }
+/// The local that a statement declares, if it is a declaration.
+pub fn declared(statement: &RawSimple) -> Option<Start>
+    ensures blames { (rest : List SpecStatement) → declaration_flat statement.now rest ≡ start_flat result rest }
+    ensures fresh { IfSome result (λ start. size start.state ≡ 1) }
 {
-    let (local, duty) = match statement {
-        RawSimple::Constant { local, .. } => (local, Duty::Unset),
-        RawSimple::Join { local, .. } => (local, Duty::Join),
-        RawSimple::Head { local, .. } => (local, Duty::Head),
+    let (local, state) = match statement {
+        RawSimple::Constant { local, .. } => (local, State::Settled),
+        RawSimple::Join { local, .. } => (local, State::AwaitsChoice),
+        RawSimple::Head { local, .. } => (local, State::AwaitsLoop),
         _ => return None,
     };
     Some(Start {
         number: local.value,
-        duty,
+        state,
     })
-}
-
-/// The local that a statement declares.
-fn declared(statement: &RawStatement) -> Option<Start>
-    ensures { (rest : List SpecStatement) → statement_flat statement.now rest ≡ start_flat result rest }
-{
-    match statement {
-        RawStatement::Simple(inner) => declared_in(inner),
-        _ => None,
-    }
-}
-
-/// What a statement blames in those that follow it, if it is a declaration. It is the last of so many first statements of its
-/// body, and `ends` has for each local how many statements of the body stand up to the last that sets it again.
-pub fn follow_statement(
-    alloc: Global,
-    least: &mut Option<usize>,
-    ends: &IndexMap<u32, usize>,
-    first: usize,
-    statement: &RawStatement,
-    rest: &[RawStatement],
-) -> Result<(), AllocError>
-    requires { SetsEndBehind (get nat_eq ends.now) first rest.now }
-    ensures { OnOk result (Blames least.old least.new (statement_flat statement.now rest.now)) }
-{
-    if let Some(start) = declared(statement) {
-        let count = count_behind(ends, start.number, first);
-        follow(alloc, least, start, rest, count)?;
-    }
-    Ok(())
 }

@@ -1,5 +1,5 @@
 //! How often locals are set, and where.
-ghost use Rattle.std.specs.Prelude.{◌≡◌, IfOk, OnOk, map, true};
+ghost use Rattle.std.specs.Prelude.{◌≡◌, ◌∷◌, IfOk, OnOk, map, true};
 ghost use Rattle.std.specs.List.{flat_map, list_all};
 ghost use Rattle.c_tree.specs.Form.{least_of};
 ghost use Rattle.c_tree.specs.rules.Bodies as bodies;
@@ -8,22 +8,50 @@ ghost use Rattle.c_raw.specs.Blocks.{block_view, is_body};
 ghost use Rattle.c_raw.specs.Views.{file_view, has_bodies, module_has_bodies, module_view};
 ghost use Rattle.c_form.specs.Blames.{Blames};
 ghost use Rattle.c_form.specs.Bodies.{body_view, is_one_block};
+ghost use Rattle.c_settings.specs.Passes.{IsPass, Keeps};
+ghost use Rattle.c_settings.specs.Walks.{settings_flat};
 
-use crate::ends::settings_ends;
-use crate::follow::follow_statement;
+use crate::pass::{Pass, close, leave, no_locals, open_choice, open_loop};
+use crate::simple::{read, simple};
 use c_form::body::{Body, bodies_of, statements};
 use c_raw::{RawFile, RawModule, RawStatement};
 use std::alloc::Global;
 use va_base::NoMemory;
 
+/// Goes behind a statement.
+fn step(
+    alloc: Global,
+    pass: &mut Pass,
+    least: &mut Option<usize>,
+    statement: &RawStatement,
+    rest: &[RawStatement],
+) -> Result<(), NoMemory>
+    ensures { OnOk result (IsPass pass.old → IsPass pass.new × Keeps least.old least.new pass.old pass.new
+        (statement.now ∷ rest.now) rest.now (settings_flat (statement.now ∷ rest.now)) (settings_flat rest.now)) }
+{
+    match statement {
+        RawStatement::Simple(inner) => simple(alloc, pass, least, inner, rest)?,
+        RawStatement::Leave { test, .. } => {
+            read(pass, least, *test);
+            leave(alloc, pass)?;
+        }
+        RawStatement::If { test } => {
+            read(pass, least, *test);
+            open_choice(alloc, pass)?;
+        }
+        RawStatement::For => open_loop(alloc, pass)?,
+        RawStatement::End { at } => close(pass, least, *at as usize)?,
+    }
+    Ok(())
+}
+
 fn block(alloc: Global, least: &mut Option<usize>, list: &[RawStatement]) -> Result<(), NoMemory>
     requires { is_body list.now ≡ true }
     ensures { OnOk result (Blames least.old least.new (settings_in (block_view list.now))) }
 {
-    let ends = settings_ends(alloc, list)?;
+    let mut pass = no_locals(alloc);
     for (index, statement) in list.iter().enumerate() {
-        let first = index + 1;
-        follow_statement(alloc, least, &ends, first, statement, &list[first..])?;
+        step(alloc, &mut pass, least, statement, &list[index + 1..])?;
     }
     Ok(())
 }

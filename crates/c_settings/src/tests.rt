@@ -379,3 +379,196 @@ fn each_declaration_of_a_block_counts(rt: HostRuntime) -> Result<(), Fail> {
     assert!(rt; blames(alloc, least, Some(16)));
     Ok(())
 }
+
+#[test]
+fn ifs_in_ifs_have_joins_of_their_own(rt: HostRuntime) -> Result<(), Fail> {
+    let alloc = rt.alloc();
+    let right = vec![in alloc;
+        join(10, 1),
+        choice(14),
+        join(16, 2),
+        choice(20),
+        set(24, 2),
+        end(30),
+        set(32, 2),
+        end(38),
+        set(40, 1),
+        end(46),
+        set(48, 1),
+        end(54),
+        read(56, 1),
+        end(70),
+    ]?;
+    let missing = vec![in alloc;
+        join(10, 1),
+        choice(14),
+        join(16, 2),
+        choice(20),
+        set(24, 2),
+        end(30),
+        end(38),
+        set(40, 1),
+        end(46),
+        set(48, 1),
+        end(54),
+        end(70),
+    ]?;
+    let deeper = vec![in alloc;
+        join(10, 1),
+        choice(14),
+        join(16, 2),
+        choice(20),
+        set(24, 2),
+        set(28, 1),
+        end(32),
+        set(34, 2),
+        end(38),
+        set(40, 1),
+        end(46),
+        set(48, 1),
+        end(54),
+        end(70),
+    ]?;
+    assert!(rt; blames(alloc, right, None));
+    assert!(rt; blames(alloc, missing, Some(38)));
+    assert!(rt; blames(alloc, deeper, Some(28)));
+    Ok(())
+}
+
+#[test]
+fn each_local_of_a_block_waits_for_itself(rt: HostRuntime) -> Result<(), Fail> {
+    let alloc = rt.alloc();
+    let one_lacks = vec![in alloc;
+        join(10, 1),
+        join(12, 2),
+        choice(16),
+        set(20, 1),
+        set(24, 2),
+        end(30),
+        set(32, 2),
+        end(40),
+        end(50),
+    ]?;
+    let one_after_another = vec![in alloc;
+        choice(10),
+        constant(12, 1),
+        end(20),
+        join(22, 1),
+        choice(26),
+        set(28, 1),
+        end(34),
+        set(36, 1),
+        end(42),
+        end(46),
+        end(50),
+    ]?;
+    let second_lacks = vec![in alloc;
+        choice(10),
+        constant(12, 1),
+        end(20),
+        join(22, 1),
+        choice(26),
+        set(28, 1),
+        end(34),
+        end(42),
+        end(46),
+        end(50),
+    ]?;
+    let both_of_a_number = vec![in alloc;
+        constant(10, 1),
+        join(14, 1),
+        choice(18),
+        end(24),
+        set(26, 1),
+        end(40),
+        end(50),
+    ]?;
+    let third_of_a_number = vec![in alloc;
+        join(10, 1),
+        choice(14),
+        set(18, 1),
+        end(24),
+        set(26, 1),
+        end(32),
+        join(34, 1),
+        join(36, 1),
+        read(38, 1),
+        choice(44),
+        end(50),
+        end(54),
+        end(60),
+    ]?;
+    let later_if = vec![in alloc;
+        join(10, 1),
+        choice(14),
+        set(18, 1),
+        end(24),
+        set(26, 1),
+        end(32),
+        join(34, 2),
+        choice(38),
+        set(40, 2),
+        set(44, 1),
+        end(50),
+        set(52, 2),
+        end(58),
+        end(60),
+    ]?;
+    assert!(rt; blames(alloc, one_lacks, Some(40)));
+    assert!(rt; blames(alloc, one_after_another, None));
+    assert!(rt; blames(alloc, second_lacks, Some(42)));
+    assert!(rt; blames(alloc, both_of_a_number, Some(24)));
+    assert!(rt; blames(alloc, third_of_a_number, Some(42)));
+    assert!(rt; blames(alloc, later_if, Some(44)));
+    Ok(())
+}
+
+#[test]
+fn one_break_is_enough(rt: HostRuntime) -> Result<(), Fail> {
+    let alloc = rt.alloc();
+    let many = vec![in alloc;
+        head(10, 1),
+        head(14, 2),
+        RawStatement::For,
+        leave(18),
+        set(24, 2),
+        leave(28),
+        leave(34),
+        set(40, 1),
+        leave(44),
+        end(50),
+        end(60),
+    ]?;
+    let twice = vec![in alloc;
+        head(10, 1),
+        RawStatement::For,
+        leave(18),
+        set(24, 1),
+        leave(28),
+        set(34, 1),
+        end(50),
+        end(60),
+    ]?;
+    let never = vec![in alloc;
+        head(10, 1),
+        RawStatement::For,
+        set(24, 1),
+        end(30),
+        end(60),
+    ]?;
+    let inner = vec![in alloc;
+        head(10, 1),
+        RawStatement::For,
+        RawStatement::For,
+        leave(18),
+        end(24),
+        set(26, 1),
+        end(40),
+        end(60),
+    ]?;
+    assert!(rt; blames(alloc, many, None));
+    assert!(rt; blames(alloc, twice, Some(34)));
+    assert!(rt; blames(alloc, never, Some(24)));
+    assert!(rt; blames(alloc, inner, Some(26)));
+    Ok(())
+}

@@ -1,24 +1,27 @@
-use Rattle.std.proofs.Common.{◌+◌, arith}
-use Rattle.std.specs.Prelude.{nat_eq}
-use Rattle.indexmap.specs.IndexMap.{get}
+use Rattle.std.proofs.Common.{◌≡◌, ◌+◌, arith, drop, []}
+use Rattle.std.proofs.Math.ListN.{drop_of_length-le}
 use Rattle.c_form.proofs.Seen.{blames_like}
-use Rattle.c_settings.specs.Ends.{count_of}
-use Rattle.c_settings.proofs.Ending.{sets-behind}
+use Rattle.c_settings.specs.Passes.{Keeps}
+use Rattle.c_settings.specs.Walks.{settings_flat}
+use Rattle.c_settings.proofs.Declaring.{next-keeps, pass-blames}
 use Rattle.c_settings.proofs.Flat.{settings-body}
-use Rattle.c_settings.proofs.Following.{rest-is, settings-at, settings-last}
+use Rattle.c_settings.proofs.Following.{rest-is}
 use Rattle.c_settings.proofs.settings.block.Goals as goal
 
-pub follow_statement-requires : goal.follow_statement-requires
-follow_statement-requires c = λ i.
-    sets-behind i (count_of (get nat_eq c.in_ok-ends.ends i)) (c.loop-index.index + 1) c.args.list.now _
-    (rest-is (c.loop-index.index + 1) c.args.list.now) (c.in_ok-ends.ensures i)
-
 pub loop-index-preserved : goal.loop-index-preserved
-loop-index-preserved c = λ new more.
-    c.loop-index.invariant new
-    (settings-at _ _ new c.args.list.now _ c.loop-index.index c.index-list-index.result (omega arith) c.index-list-index.is
-    (rest-is (c.loop-index.index + 1) c.args.list.now) c.in_ok-follow_statement.ensures more)
+loop-index-preserved c = record {
+  holds = (c.in_ok-step.ensures c.loop-index.invariant.holds).0;
+  keeps = next-keeps c.args.least.now c.loop-index.least c.step.new.least c.no_locals-pass.result c.loop-index.pass c.step.new.pass c.args.list.now _
+      c.loop-index.index c.index-list-index.result (settings_flat c.args.list.now) (omega arith) c.index-list-index.is
+      (rest-is (c.loop-index.index + 1) c.args.list.now) c.loop-index.invariant.keeps (c.in_ok-step.ensures c.loop-index.invariant.holds).1;
+}
 
 pub returns : goal.returns
 returns c =
-    blames_like _ _ _ _ (c.loop-index.invariant _ (settings-last _ c.args.list.now c.loop-index.index (omega arith))) (settings-body c.args.list.now c.requires)
+    let end : drop c.loop-index.index c.args.list.now ≡ [] = drop_of_length-le c.args.list.now (omega arith) in
+    let whole : Keeps c.args.least.now c.loop-index.least c.no_locals-pass.result c.loop-index.pass c.args.list.now [] (settings_flat c.args.list.now) [] =
+    rw end at c.loop-index.invariant.keeps in
+    blames_like _ _ _ _
+    (pass-blames c.args.least.now c.loop-index.least c.no_locals-pass.result c.loop-index.pass c.args.list.now (settings_flat c.args.list.now)
+    c.no_locals-pass.ensures.none whole)
+    (settings-body c.args.list.now c.requires)

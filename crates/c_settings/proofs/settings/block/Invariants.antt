@@ -1,10 +1,11 @@
-use Rattle.std.proofs.Common.{ℕ, drop}
-use Rattle.std.specs.Prelude.{Option}
-use Rattle.c_form.specs.Blames.{Blames}
+use Rattle.std.proofs.Common.{drop}
+use Rattle.c_settings.specs.Passes.{IsPass, Keeps}
 use Rattle.c_settings.specs.Walks.{settings_flat}
 use Rattle.c_settings.proofs.settings.block.Given as goal
 
--- whatever blames what is left blames it all
+-- behind so many statements the same is still to be blamed, but what was blamed
 abbrev pub invariant-loop-index : goal.invariant-loop-index
-invariant-loop-index l =
-    (new : Option ℕ) → Blames l.least new (settings_flat (drop l.index l.list)) → Blames l.fn.least new (settings_flat l.list)
+invariant-loop-index l = record {
+  holds : IsPass l.pass;
+  keeps : Keeps l.fn.least l.least l.initial.pass l.pass l.list (drop l.index l.list) (settings_flat l.list) (settings_flat (drop l.index l.list));
+}
