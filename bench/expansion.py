@@ -11,10 +11,9 @@ a bound is passed.
 """
 import os
 import shutil
-import sys
 import tempfile
 
-from measure import GROWTH, PROGRAM, compiled, growth, measured, runs_asked
+from measure import GROWTH, PROGRAM, compiled, growth, measured, run_bench
 
 TIMES = 12
 BYTES = 128
@@ -161,11 +160,7 @@ class Bench:
         print(f'{name:>36} {times:53.2f}  {note}')
 
 
-def main():
-    runs = runs_asked(__doc__)
-    if runs is None:
-        return 0
-    print(f'{"text":>36} {"MB":>7} {"tokens":>9} {"s":>8} {"peak MB":>8}')
+def bounds_passed(runs):
     bench = Bench(runs)
     bench.compared('text as it stands', plain)
     bench.compared('skipped text', skipped)
@@ -175,8 +170,8 @@ def main():
     bench.grows('a macro of that many formals', named, 200_000, bounded=False)
     bench.grows('uses of one token', lambda n: uses(n, 1), 600_000)
     bench.grows('uses of 1000 tokens', lambda n: uses(n, 1000), 600_000)
-    return 1 if bench.passed else 0
+    return bench.passed
 
 
 if __name__ == '__main__':
-    sys.exit(main())
+    run_bench(__doc__, f'{"text":>36} {"MB":>7} {"tokens":>9} {"s":>8} {"peak MB":>8}', bounds_passed)

@@ -8,10 +8,9 @@ about as long as starting a program does, so their factors lie below. Nothing is
 folder. It ends with status 1 where a factor is above.
 """
 import os
-import sys
 import tempfile
 
-from measure import GROWTH, compiled, growth, runs_asked
+from measure import GROWTH, compiled, growth, run_bench
 
 
 # So many summands stand in one chain: three levels of chains stay within the depth that a source may have.
@@ -50,15 +49,12 @@ def written(top, name, text):
     return folder
 
 
-def main():
-    runs = runs_asked(__doc__)
-    if runs is None:
-        return 0
+def bounds_passed(runs):
+    """How many texts grow faster than they may."""
     cases = [(f'{n} parameters', n, lambda n: text_of(n, 100), 0) for n in (10, 1000, 2000)]
     cases += [(f'{n} terms', n, lambda n: text_of(10, n), 0) for n in (1000, 10000, 100000)]
     cases += [(f'{n} MB of spaces', n, lambda n: ' ' * (n << 20), 1) for n in (1, 4, 8)]
     late = 0
-    print(f'{"text":>20} {"n: s":>9} {"MB":>8} {"2n: s":>9} {"MB":>8} {"s":>6} {"MB":>6}')
     for name, n, make, wanted in cases:
         with tempfile.TemporaryDirectory() as top:
             one, two = compiled([written(top, 'n', make(n)), written(top, '2n', make(2 * n))], runs)
@@ -69,8 +65,8 @@ def main():
             note += f'  status {one.status}, {two.status}'
         late += bool(note)
         print(f'{name:>20} {one.seconds:9.3f} {one.peak:8.1f} {two.seconds:9.3f} {two.peak:8.1f} {times:6.2f} {sizes:6.2f}{note}')
-    return 1 if late else 0
+    return late
 
 
 if __name__ == '__main__':
-    sys.exit(main())
+    run_bench(__doc__, f'{"text":>20} {"n: s":>9} {"MB":>8} {"2n: s":>9} {"MB":>8} {"s":>6} {"MB":>6}', bounds_passed)

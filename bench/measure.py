@@ -20,12 +20,16 @@ def is_built():
     return built
 
 
-def runs_asked(description):
-    """How many runs of each command the words of the script ask for, or None where the program is not built."""
+def run_bench(description, head, bounds_passed):
+    """Runs a script's measurements under a line with this head, each command as often as the script's words ask for. It ends with
+    status 1 where bounds are passed, of which the measurements answer the number, and with 0 where the program is not built."""
     words = argparse.ArgumentParser(description=description, formatter_class=argparse.RawDescriptionHelpFormatter)
     words.add_argument('--runs', type=int, default=7)
     runs = words.parse_args().runs
-    return runs if is_built() else None
+    if not is_built():
+        sys.exit(0)
+    print(head)
+    sys.exit(1 if bounds_passed(runs) else 0)
 
 
 class Run:

@@ -12,10 +12,9 @@ ends with status 1 where a bound is passed.
 """
 import os
 import subprocess
-import sys
 import tempfile
 
-from measure import GROWTH, PROGRAM, compiled, growth, runs_asked
+from measure import GROWTH, PROGRAM, compiled, growth, run_bench
 
 TIMES = 5
 BYTES = 320
@@ -130,16 +129,12 @@ class Bench:
         self.note(f'{"bytes a token":>24} {size:27.0f}', [] if size <= BYTES else [f'above {BYTES}'])
 
 
-def main():
-    runs = runs_asked(__doc__)
-    if runs is None:
-        return 0
-    print(f'{"text":>24} {"tokens":>9} {"s":>8} {"peak MB":>8}')
+def bounds_passed(runs):
     bench = Bench(runs)
     bench.chains()
     bench.taken([('a list of arguments', arguments, ARGUMENTS, 'Unbuilt'), ('open parentheses', parentheses, 1_000_000, 'Syntax')])
-    return 1 if bench.passed else 0
+    return bench.passed
 
 
 if __name__ == '__main__':
-    sys.exit(main())
+    run_bench(__doc__, f'{"text":>24} {"tokens":>9} {"s":>8} {"peak MB":>8}', bounds_passed)

@@ -5,15 +5,15 @@
 
 To read a file is to take no more time than the compiler needs to check it, where one is there (it finds the small header of
 bench/c); at twice the text a factor of at most 2.2; and at most 40 times the memory of the text. A file of blocks that never
-end is to take at most 150 bytes a token. Nothing is kept: the files are made in a fresh folder. It ends with status 1 where
-a bound is passed.
+end is to take at most 150 bytes a token, and so are one of over a million loops in one another, each left and closed as it ought to be,
+and one of an `if` that sets over a million locals in each arm, which are to be read. Nothing is kept: the files are made in a fresh
+folder. It ends with status 1 where a bound is passed.
 """
 import os
 import shutil
-import sys
 import tempfile
 
-from measure import GROWTH, PROGRAM, growth, measured, runs_asked
+from measure import GROWTH, PROGRAM, growth, measured, run_bench
 
 HEADERS = os.path.join(os.path.dirname(os.path.abspath(__file__)), 'c')
 MOST = 40
@@ -191,14 +191,50 @@ def whole(write, size):
     return 0
 
 
+OPEN = 'for ( ; ; ) {\n'
+CLOSE = """if ( ! v1 ) {
+break ;
+}
+}
+"""
+
+
 def blocks(write, size):
     """The same, of loops in one another that never end: 7 tokens each."""
     write(HEAD)
     write(MODULE)
-    loops = (size - len(HEAD) - len(MODULE)) // len('for ( ; ; ) {\n')
+    loops = (size - len(HEAD) - len(MODULE)) // len(OPEN)
     for _ in range(loops):
-        write('for ( ; ; ) {\n')
+        write(OPEN)
     return 7 * loops
+
+
+def closed(write, size):
+    """The same, of loops in one another that are left and closed: 17 tokens each."""
+    write(HEAD)
+    write(MODULE)
+    write('const int32_t v1 = 1 ;\n')
+    loops = (size - len(HEAD) - len(MODULE) - len(TAIL)) // len(OPEN + CLOSE)
+    for piece in (OPEN, CLOSE):
+        for _ in range(loops):
+            write(piece)
+    write(TAIL.format(z=0))
+    return 17 * loops
+
+
+def joined(write, size):
+    """The same, of locals that one `if` sets in each of its arms: 11 tokens each."""
+    write(HEAD)
+    write(MODULE)
+    write('const int32_t v1 = 1 ;\n')
+    count = (size - len(HEAD) - len(MODULE) - len(TAIL)) // len('double v9999999 ;\n' + 2 * 'v9999999 = v0 ;\n')
+    for start, line, end in (('', 'double v{} ;\n', ''), ('if ( v1 ) {\n', 'v{} = v0 ;\n', '}\n'), ('else {\n', 'v{} = v0 ;\n', '}\n')):
+        write(start)
+        for number in range(count):
+            write(line.format(number + 2))
+        write(end)
+    write(TAIL.format(z=0))
+    return 11 * count
 
 
 class Text:
@@ -246,24 +282,21 @@ def files(runs):
     return passed
 
 
-def endless(runs):
-    """Blocks that never end."""
+def large(name, make, size, status):
+    """One large file, which is to end with this status; whether a bound is passed."""
     with tempfile.TemporaryDirectory() as top:
-        text = Text(top, 'blocks', blocks, 32 << 20)
-        [run] = measured([(text.folder, [PROGRAM, 'read', 'm.c'])], runs)
+        text = Text(top, 'blocks', make, size)
+        [run] = measured([(text.folder, [PROGRAM, 'read', 'm.c'])], 1)
         size = run.peak * (1 << 20) / text.tokens
-        notes = [] if run.status == 1 else [f'status {run.status}']
+        notes = [] if run.status == status else [f'status {run.status}']
         notes += [f'{size:.0f} bytes a token'] if size > BYTES else []
-        return told('blocks without an end', text, run, notes)
+        return told(name, text, run, notes)
 
 
-def main():
-    runs = runs_asked(__doc__)
-    if runs is None:
-        return 0
-    print(f'{"file":>24} {"MB":>7} {"s":>8} {"peak MB":>8}')
-    return 1 if files(runs) + endless(runs) else 0
+def bounds_passed(runs):
+    rows = [('blocks without an end', blocks, 32 << 20, 1), ('loops in one another', closed, 60 << 20, 0), ('locals of one if', joined, 60 << 20, 0)]
+    return files(runs) + sum(large(*row) for row in rows)
 
 
 if __name__ == '__main__':
-    sys.exit(main())
+    run_bench(__doc__, f'{"file":>24} {"MB":>7} {"s":>8} {"peak MB":>8}', bounds_passed)

@@ -217,14 +217,23 @@ fn commands_end_with_their_reasons(rt: HostRuntime) -> Result<(), Fail> {
     Ok(())
 }
 
-/// A C file without modules has no tables.
+/// A C file without modules has no tables. Blanks may stand behind it, up to the most bytes of a file.
 #[test]
-fn c_files_are_read(rt: HostRuntime) -> Result<(), Fail> {
+fn c_files_are_read_up_to_their_limit(rt: HostRuntime) -> Result<(), Fail> {
     let (before, after) = ONE_MISSING.split_once("= 1u").ok_or("no number")?;
     let text = format!(in rt.alloc(); "{before}= 0u{after}")?;
-    let end = answer_to(rt.alloc(), "read m.va", text.as_bytes(), NONE)?;
-    assert_eq!(rt; end.status, Status::Done);
-    assert!(rt; end.out.is_empty() && end.err.is_empty());
+    let mut bytes = text.as_bytes().to_vec(rt.alloc())?;
+    for (size, status, reason) in [
+        (text.len(), Status::Done, ""),
+        (1 << 26, Status::Done, ""),
+        ((1 << 26) + 1, Status::Refused, "m.va:1:1: FileLarge\n"),
+    ] {
+        bytes.resize(size, b' ')?;
+        let end = answer_to(rt.alloc(), "read m.va", bytes.as_slice(), NONE)?;
+        assert_eq!(rt; end.status, status, "{size}");
+        assert_eq!(rt; end.err.as_slice(), reason.as_bytes(), "{size}");
+        assert!(rt; end.out.is_empty(), "{size}");
+    }
     Ok(())
 }
 
