@@ -37,20 +37,3 @@ pub fn turns_of_loop<E: Drop, S: Drop, T: Drop>(
 pub fn least_sets()
     ensures { LeastSets }
 {}
-
-#[cfg(test)]
-mod tests {
-    use super::*;
-    use crate::number::Reason;
-
-    #[test]
-    fn laws_of_computations_hold(_rt: HostRuntime) {
-        integers_stay_in_range();
-        least_sets();
-        let reasons: PhantomData<Reason> = PhantomData;
-        let numbers: PhantomData<i32> = PhantomData;
-        let answers: PhantomData<bool> = PhantomData;
-        sequences_regroup(reasons, answers, numbers, answers, numbers);
-        turns_of_loop(reasons, numbers, answers);
-    }
-}

@@ -64,31 +64,3 @@ pub fn residues_are_an_algebra()
     ensures units { (x : ℕ) → 0 < x → x < modulus → residue_unit x }
     ensures copies { (n : ℕ) → copies residue_ops n ≡ n % modulus }
 {}
-
-#[cfg(test)]
-mod tests {
-    use super::*;
-    use crate::dual::Dual;
-    use crate::whole::Whole;
-
-    /// Each law of every algebra, at one.
-    fn hold_at<A: Algebra>(law: PhantomData<A>) {
-        negatives_and_products(law);
-        sums_regroup(law);
-        literals_are_valid(law);
-        literals_are_lifted(law);
-        lifts_are_kept(law);
-        mains_relate(law);
-        validity_relates(law);
-        lifts_relate(law);
-    }
-
-    #[test]
-    fn laws_hold_at_whole_numbers_and_their_dual_numbers(_rt: HostRuntime) {
-        let whole: PhantomData<Whole> = PhantomData;
-        hold_at(whole);
-        let dual: PhantomData<Dual<Whole>> = PhantomData;
-        hold_at(dual);
-        residues_are_an_algebra();
-    }
-}

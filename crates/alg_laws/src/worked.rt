@@ -26,17 +26,3 @@ pub fn numbers_worked_by_hand()
 pub fn loops_worked_by_hand()
     ensures { WorkedLoops }
 {}
-
-#[cfg(test)]
-mod tests {
-    use super::*;
-
-    #[test]
-    fn worked_rows_hold(_rt: HostRuntime) {
-        derivatives_worked_by_hand();
-        values_worked_by_hand();
-        integers_worked_by_hand();
-        numbers_worked_by_hand();
-        loops_worked_by_hand();
-    }
-}

@@ -5,7 +5,7 @@ use Rattle.std.specs.Str.{bytes_eq}
 use Rattle.indexmap.specs.IndexMap.{IndexMap, get_by}
 use Rattle.alg_laws.specs.declared.number.Ty.{Ty}
 use Rattle.c_tree.specs.declared.body.CField.{CField}
-use Rattle.c_tree.specs.Machine.{same_type}
+use Rattle.c_tree.specs.SameType.{same_type}
 use Rattle.c_tree.specs.Raw.{RawField, RawModule}
 use Rattle.c_tree.specs.Text.{field_word}
 use Rattle.c_tree.specs.rules.Fields.{type_among}

@@ -1,6 +1,6 @@
 //! Cells that a text names are there, with the type that is needed.
 ghost use Rattle.std.specs.Prelude.{◌≡◌, OnOk};
-ghost use Rattle.c_tree.specs.Machine.{same_type as same_type_lem};
+ghost use Rattle.c_tree.specs.SameType.{same_type as same_type_lem};
 ghost use Rattle.c_tree.specs.Raw as raw_tree;
 ghost use Rattle.c_tree.specs.rules.Fields.{cell_missing as cell_missing_lem};
 ghost use Rattle.c_raw.specs.Blocks.{at_view};

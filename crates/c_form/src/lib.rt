@@ -29,5 +29,3 @@ pub mod numbering;
 mod ranges;
 pub mod scope;
 pub mod tables;
-#[cfg(test)]
-mod tests;

@@ -36,8 +36,3 @@ pub fn print(alloc: Global, file: &CFile) -> Result<Vec<u8>, NoMemory>
     descriptor::put_end(&mut text, modules)?;
     Ok(text)
 }
-
-#[cfg(test)]
-mod tests;
-#[cfg(test)]
-mod whole_tests;

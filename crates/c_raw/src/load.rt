@@ -44,38 +44,3 @@ pub struct RawLoad {
     pub first: At<LoadFactor>,
     pub more: Items<At<LoadFactor>>,
 }
-
-#[cfg(test)]
-mod tests {
-    use super::*;
-    use std::test::Fail;
-
-    #[test]
-    fn each_function_has_its_statements(rt: HostRuntime) -> Result<(), Fail> {
-        let mut some = Vec::new(rt.alloc());
-        some.push(RawLoad {
-            target: At {
-                at: 7,
-                value: LoadTarget::EntryReact(2),
-            },
-            sign: LoadSign::Add,
-            first: At {
-                at: 14,
-                value: LoadFactor::Alpha,
-            },
-            more: Items::new(Vec::new(rt.alloc())),
-        })?;
-        let loads = RawLoads {
-            residual_resist: Items::new(Vec::new(rt.alloc())),
-            residual_react: Items::new(Vec::new(rt.alloc())),
-            jacobian_resist: Items::new(Vec::new(rt.alloc())),
-            jacobian_react: Items::new(some),
-            jacobian_tran: Items::new(Vec::new(rt.alloc())),
-            spice_rhs_dc: Items::new(Vec::new(rt.alloc())),
-            spice_rhs_tran: Items::new(Vec::new(rt.alloc())),
-        };
-        assert_eq!(rt; loads.of(LoadFunction::JacobianReact).len(), 1);
-        assert_eq!(rt; loads.of(LoadFunction::JacobianTran).len(), 0);
-        Ok(())
-    }
-}

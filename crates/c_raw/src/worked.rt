@@ -5,13 +5,3 @@ ghost use Rattle.c_raw.specs.Worked.{WorkedBlocks};
 pub fn blocks_worked_by_hand()
     ensures { WorkedBlocks }
 {}
-
-#[cfg(test)]
-mod tests {
-    use super::*;
-
-    #[test]
-    fn worked_rows_hold(_rt: HostRuntime) {
-        blocks_worked_by_hand();
-    }
-}

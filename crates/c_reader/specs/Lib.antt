@@ -1,4 +1,2 @@
-pub mod Fronts
-pub mod Places
-pub mod Syntax
-pub mod grammar
+pub mod Answers
+pub mod Reading

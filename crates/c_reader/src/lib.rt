@@ -1,25 +1,9 @@
-//! Reads C files: their tokens, and whether the grammar spells them.
+//! Reads C files: which file the bytes of a text spell, or why they spell none.
 #![tactic(auto)]
 
-pub mod bytes;
-pub mod c_rows;
-pub mod error;
-pub mod fault_place;
-pub mod front;
-pub mod kind_names;
-pub mod kinds;
-pub mod number;
-pub mod row_tables;
-pub mod syntax;
-pub mod token_list;
+mod form;
+pub mod laws;
+mod reading;
 
-pub use c_rows::CRows;
-pub use error::CErr;
-pub use fault_place::place;
-pub use syntax::{ParsedFile, parse_file};
-pub use token_list::{TokenErr, tokens};
-
-#[cfg(test)]
-mod samples;
-#[cfg(test)]
-mod tests;
+pub use form::form_fault;
+pub use reading::read;

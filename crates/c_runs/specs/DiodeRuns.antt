@@ -3,8 +3,8 @@
 use Rattle.std.specs.Prelude.{◌≡◌, ◌++◌, ℕ, true, false, pos, List, [], ◌∷◌, replicate}
 use Rattle.alg_laws.specs.declared.number.Number.TheVariants.{Real, Int}
 use Rattle.alg_laws.specs.Outcome.{gives, ends}
-use Rattle.c_tree.specs.Machine.{stuck, Machine}
-use Rattle.c_tree.specs.Runs.{HostCall, set_parameter, setup_model, setup_instance, evaluate, load_residual_resist, load_residual_react, load_jacobian_resist, load_jacobian_react, load_jacobian_tran, load_rhs_dc, load_rhs_tran, is_run}
+use Rattle.c_machine.specs.Machine.{stuck, Machine}
+use Rattle.c_machine.specs.Runs.{HostCall, set_parameter, setup_model, setup_instance, evaluate, load_residual_resist, load_residual_react, load_jacobian_resist, load_jacobian_react, load_jacobian_tran, load_rhs_dc, load_rhs_tran, is_run}
 use Rattle.c_runs.specs.Diode.{diode}
 use Rattle.c_runs.specs.Host.{fresh, after, errors_after, model_after}
 use Rattle.c_runs.specs.Notation.{minus, half}

@@ -4,8 +4,8 @@ use Rattle.alg_laws.specs.declared.number.Number.{Number}
 use Rattle.alg_laws.specs.Outcome.{Outcome, gives, ◌>>=◌}
 use Rattle.alg_laws.specs.Residue.{residue_ops}
 use Rattle.c_tree.specs.declared.file.CModule.{CModule}
-use Rattle.c_tree.specs.Machine.{Stop, Machine, new_machine}
-use Rattle.c_tree.specs.Runs.{HostCall, run_to_end}
+use Rattle.c_machine.specs.Machine.{Stop, Machine, new_machine}
+use Rattle.c_machine.specs.Runs.{HostCall, run_to_end}
 
 -- the machine of a new instance, with what the vector and the matrix hold
 abbrev pub fresh : CModule → List ℕ → List ℕ → Machine ℕ

@@ -3,8 +3,8 @@ use Rattle.std.specs.Prelude.{◌≡◌, ◌++◌, ℕ, ℤ, true, false, pos, n
 use Rattle.alg_laws.specs.declared.number.Number.TheVariants.{Real, Int}
 use Rattle.alg_laws.specs.declared.number.Reason.TheVariants.{Turns, IntRange}
 use Rattle.alg_laws.specs.Outcome.{Outcome, gives, ends}
-use Rattle.c_tree.specs.Machine.{Stop, undefined, stuck, Machine}
-use Rattle.c_tree.specs.Runs.{HostCall, set_parameter, setup_model, setup_instance, evaluate, load_residual_resist, load_residual_react, load_jacobian_resist, load_jacobian_react, load_jacobian_tran, load_rhs_dc, load_rhs_tran, is_run}
+use Rattle.c_machine.specs.Machine.{Stop, undefined, stuck, Machine}
+use Rattle.c_machine.specs.Runs.{HostCall, set_parameter, setup_model, setup_instance, evaluate, load_residual_resist, load_residual_react, load_jacobian_resist, load_jacobian_react, load_jacobian_tran, load_rhs_dc, load_rhs_tran, is_run}
 use Rattle.c_runs.specs.Host.{fresh, after}
 use Rattle.c_runs.specs.Notation.{minus}
 use Rattle.c_runs.specs.Power.{power_source}

@@ -5,5 +5,3 @@ pub mod diode;
 pub mod inductor;
 pub mod power;
 pub mod resistor;
-#[cfg(test)]
-mod tests;

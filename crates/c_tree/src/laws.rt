@@ -1,57 +1,8 @@
-//! What follows from the definitions, as the contracts of functions with nothing to do: a contract is what the check proves.
-ghost use Rattle.alg_laws.specs.AtFour.{AtFour};
+//! What follows from the definitions, as the contract of a function with nothing to do: a contract is what the check proves.
 ghost use Rattle.c_tree.specs.Blocks.{BlocksOfLists};
-ghost use Rattle.c_tree.specs.NeverStuck.{NeverStuck};
-ghost use Rattle.c_tree.specs.MachineLaws.{CallsKeep, LoadsAdd, RunsFollow, TurnsSuffice};
-
-use alg_laws::Algebra;
-use std::marker::PhantomData;
 
 /// A block and its flat list determine each other.
 #[tactic(auto, using(crate::proofs::Nesting::blocks_of_lists))]
 pub fn blocks_of_lists()
     ensures { BlocksOfLists }
 {}
-
-/// A run of some calls and then others is the second from where the first ended.
-pub fn runs_follow<A: Algebra>(_law: PhantomData<A>)
-    ensures { AtFour A.ops A.valid RunsFollow }
-{}
-
-/// A run that is defined where each entry to a loop may make n turns is the same for every greater number.
-pub fn turns_suffice<A: Algebra>(_law: PhantomData<A>)
-    ensures { AtFour A.ops A.valid TurnsSuffice }
-{}
-
-/// Each call writes only what calls of its kind may write.
-pub fn calls_keep<A: Algebra>(_law: PhantomData<A>)
-    ensures { AtFour A.ops A.valid CallsKeep }
-{}
-
-/// A load leaves at each place the old value with what its statements add to it.
-pub fn loads_add<A: Algebra>(_law: PhantomData<A>)
-    ensures { AtFour A.ops A.valid LoadsAdd }
-{}
-
-/// No run of a module of a file that obeys the rules of form is stuck, where the machine has the module's cells with their types,
-/// mapped numbers are in range, and each setting finds its cell.
-pub fn never_stuck<A: Algebra>(_law: PhantomData<A>)
-    ensures { AtFour A.ops A.valid NeverStuck }
-{}
-
-#[cfg(test)]
-mod tests {
-    use super::*;
-    use alg_laws::Whole;
-
-    #[test]
-    fn laws_hold(_rt: HostRuntime) {
-        blocks_of_lists();
-        let whole: PhantomData<Whole> = PhantomData;
-        runs_follow(whole);
-        turns_suffice(whole);
-        calls_keep(whole);
-        loads_add(whole);
-        never_stuck(whole);
-    }
-}

@@ -1,4 +1,4 @@
-//! C files as trees, with their text, the machine that runs them, and runs.
+//! C files as trees, with their text, their raw trees with the rules of form, and their tables.
 //!
 //! The program so far prints the short file of the module `short`: structs, evaluation and the load of the resistive residuals.
 //! The whole file, which `CFile` holds, stands beside it.

@@ -5,13 +5,3 @@ ghost use Rattle.c_tree.specs.tokens.Worked.{WorkedTokens};
 pub fn tokens_worked_by_hand()
     ensures { WorkedTokens }
 {}
-
-#[cfg(test)]
-mod tests {
-    use super::*;
-
-    #[test]
-    fn worked_tokens_hold(_rt: HostRuntime) {
-        tokens_worked_by_hand();
-    }
-}

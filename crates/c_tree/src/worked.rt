@@ -1,7 +1,6 @@
 //! Runs that were worked out by hand, as contracts: the machine computes to them.
 ghost use Rattle.std.specs.Prelude.{pos};
 ghost use Rattle.c_tree.specs.SampleFile.{WorkedForm, WorkedSpelling, WorkedText};
-ghost use Rattle.c_tree.specs.WorkedRuns.{WorkedCRuns, WorkedBodies, WorkedCalls};
 ghost use Rattle.c_tree.specs.short.Worked.{WorkedRuns, WorkedMachine};
 
 /// Evaluations and loads of a resistor of 1 over the whole numbers.
@@ -28,35 +27,3 @@ pub fn form_worked_by_hand()
 pub fn spelling_worked_by_hand()
     ensures { WorkedSpelling }
 {}
-
-/// Runs of a resistor and of a diode with a node that may collapse, modulo 1000003.
-pub fn c_runs_worked_by_hand()
-    ensures { WorkedCRuns }
-{}
-
-/// Loops, arms, integers, and what is stuck.
-pub fn bodies_worked_by_hand()
-    ensures { WorkedBodies }
-{}
-
-/// Which lists of calls are runs.
-pub fn calls_worked_by_hand()
-    ensures { WorkedCalls }
-{}
-
-#[cfg(test)]
-mod tests {
-    use super::*;
-
-    #[test]
-    fn worked_runs_hold(_rt: HostRuntime) {
-        resistor_runs_worked_by_hand();
-        machine_worked_by_hand();
-        text_worked_by_hand();
-        form_worked_by_hand();
-        spelling_worked_by_hand();
-        c_runs_worked_by_hand();
-        bodies_worked_by_hand();
-        calls_worked_by_hand();
-    }
-}

@@ -25,17 +25,3 @@ pub fn reach_worked_by_hand()
 pub fn numbers_worked_by_hand()
     ensures { WorkedNumbering }
 {}
-
-#[cfg(test)]
-mod tests {
-    use super::*;
-
-    #[test]
-    fn worked_rows_hold(_rt: HostRuntime) {
-        names_worked_by_hand();
-        settings_worked_by_hand();
-        types_worked_by_hand();
-        reach_worked_by_hand();
-        numbers_worked_by_hand();
-    }
-}

@@ -10,6 +10,3 @@ pub use grammar::Grammar;
 pub use parser::{ParseErr, parse};
 pub use symbol::Symbol;
 pub use tree::{ParseNode, ParseTree};
-
-#[cfg(test)]
-mod tests;

@@ -44,20 +44,3 @@ impl<T> Items<T> {
         list
     }
 }
-
-#[cfg(test)]
-mod tests {
-    use super::*;
-    use std::test::Fail;
-
-    #[test]
-    fn keeps_its_elements_in_order(rt: HostRuntime) -> Result<(), Fail> {
-        let cases: [&[u32]; 3] = [&[3, 1, 2, 1], &[], &[u32::MAX]];
-        for elements in cases {
-            let items = Items::new(elements.to_vec(rt.alloc())?);
-            assert_eq!(rt; items.as_list(), elements);
-            assert_eq!(rt; items.into_list().as_slice(), elements);
-        }
-        Ok(())
-    }
-}

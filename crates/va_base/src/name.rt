@@ -32,19 +32,3 @@ impl Name {
         self.bytes.as_slice()
     }
 }
-
-#[cfg(test)]
-mod tests {
-    use super::*;
-    use std::test::Fail;
-
-    #[test]
-    fn keeps_its_bytes(rt: HostRuntime) -> Result<(), Fail> {
-        let cases: [&[u8]; 3] = [b"resistor", b"", &[0, 127, 128, 255]];
-        for bytes in cases {
-            let name = Name::new(bytes.to_vec(rt.alloc())?);
-            assert_eq!(rt; name.as_bytes(), bytes);
-        }
-        Ok(())
-    }
-}

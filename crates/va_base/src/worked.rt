@@ -19,15 +19,3 @@ pub fn decimals_worked_by_hand()
 pub fn tables_worked_by_hand()
     ensures { WorkedTables }
 {}
-
-#[cfg(test)]
-mod tests {
-    use super::*;
-
-    #[test]
-    fn worked_rows_hold(_rt: HostRuntime) {
-        longest_fronts_are_found();
-        decimals_worked_by_hand();
-        tables_worked_by_hand();
-    }
-}

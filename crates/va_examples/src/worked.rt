@@ -58,23 +58,3 @@ pub fn faults_worked_by_hand()
 pub fn limits_worked_by_hand()
     ensures { WorkedLimits }
 {}
-
-#[cfg(test)]
-mod tests {
-    use super::*;
-
-    #[test]
-    fn worked_rows_hold(_rt: HostRuntime) {
-        straight_code_worked_by_hand();
-        loops_worked_by_hand();
-        calls_worked_by_hand();
-        derivatives_worked_by_hand();
-        collapses_worked_by_hand();
-        set_ups_worked_by_hand();
-        operators_worked_by_hand();
-        statements_worked_by_hand();
-        modules_worked_by_hand();
-        faults_worked_by_hand();
-        limits_worked_by_hand();
-    }
-}

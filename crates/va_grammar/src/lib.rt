@@ -1,29 +1,15 @@
-//! From the parse tree of a text to its source tree, and the limits of size of the texts that the grammar of Verilog-A spells.
+//! The rows of Verilog-A as a grammar that `predict` parses by, and the kinds of the tokens of a text.
 #![tactic(auto)]
 
-mod attributes;
-mod disciplines;
-mod done;
-mod functions;
-mod item_bodies;
-mod modules;
-mod name_lists;
-mod natures;
-mod operators;
-mod parameters;
-mod ranges;
-mod read_expressions;
-mod read_names;
-mod read_source;
-mod read_statements;
-mod reader;
-mod size;
-mod size_links;
-mod size_rules;
-mod size_scan;
-pub mod source;
-mod statement_heads;
-mod statement_parts;
+pub mod nonterminal;
+pub mod row;
+pub mod row_at;
+pub mod rows;
+pub mod terminal;
+pub mod token_kinds;
+pub mod va_rows;
 
-pub use source::{TreeErr, build};
-pub use va_rows::{VaRows, kinds};
+pub use nonterminal::Nonterminal;
+pub use terminal::Terminal;
+pub use token_kinds::kinds;
+pub use va_grammar::VaRows;

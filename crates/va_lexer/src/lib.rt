@@ -77,6 +77,3 @@ pub fn lex(alloc: Global, bytes: &[u8], file: u32) -> Result<Vec<Token>, NoMemor
     }
     Ok(tokens)
 }
-
-#[cfg(test)]
-mod tests;

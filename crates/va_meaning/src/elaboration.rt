@@ -11,14 +11,3 @@ pub fn modules_keep_types_and_bias()
 pub fn functions_lead_not_back()
     ensures { CycleLaws }
 {}
-
-#[cfg(test)]
-mod tests {
-    use super::*;
-
-    #[test]
-    fn modules_keep_them(_rt: HostRuntime) {
-        modules_keep_types_and_bias();
-        functions_lead_not_back();
-    }
-}

@@ -61,24 +61,3 @@ pub fn types_of_values<A: Algebra>(_law: PhantomData<A>)
 pub fn points_of_set_ups<A: Algebra>(_law: PhantomData<A>)
     ensures { AtFour A.ops A.valid PointsOfSetUps }
 {}
-
-#[cfg(test)]
-mod tests {
-    use super::*;
-    use alg_laws::Whole;
-
-    #[test]
-    fn laws_hold_at_whole_numbers(_rt: HostRuntime) {
-        let whole: PhantomData<Whole> = PhantomData;
-        mains_of_evaluations(whole);
-        validity_of_evaluations(whole);
-        lifts_of_evaluations(whole);
-        mains_of_parts(whole);
-        bounds_of_evaluations(whole);
-        depths_of_functions(whole);
-        depths_in_modules(whole);
-        fixed_of_evaluations(whole);
-        types_of_values(whole);
-        points_of_set_ups(whole);
-    }
-}

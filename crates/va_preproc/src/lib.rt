@@ -22,6 +22,3 @@ pub mod worked;
 
 pub use directive::Directive;
 pub use expansion::{PreErr, expand};
-
-#[cfg(test)]
-mod tests;

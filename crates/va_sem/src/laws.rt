@@ -27,17 +27,3 @@ pub fn names_are_in_order()
 pub fn names_are_numbered()
     ensures { NamesAreNumbered }
 {}
-
-#[cfg(test)]
-mod tests {
-    use super::*;
-
-    #[test]
-    fn laws_hold(_rt: HostRuntime) {
-        least_faults_are_answered();
-        one_fault_is_answered();
-        each_expression_has_a_type();
-        names_are_in_order();
-        names_are_numbered();
-    }
-}

@@ -16,8 +16,6 @@ pub mod pattern;
 pub mod rule_laws;
 pub mod rules_worked;
 mod surveys;
-#[cfg(test)]
-mod tests;
 pub mod typed;
 pub mod worked;
 

@@ -6,13 +6,3 @@ ghost use Rattle.va_sem.specs.rules.RuleLaws.{RulesGiveLeastSets};
 pub fn rules_give_least_sets()
     ensures { RulesGiveLeastSets }
 {}
-
-#[cfg(test)]
-mod tests {
-    use super::*;
-
-    #[test]
-    fn laws_hold(_rt: HostRuntime) {
-        rules_give_least_sets();
-    }
-}

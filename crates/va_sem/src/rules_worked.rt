@@ -32,18 +32,3 @@ pub fn pattern_worked_by_hand()
 pub fn tables_worked_by_hand()
     ensures { WorkedModuleTables }
 {}
-
-#[cfg(test)]
-mod tests {
-    use super::*;
-
-    #[test]
-    fn rows_were_worked_by_hand(_rt: HostRuntime) {
-        biased_worked_by_hand();
-        derivatives_worked_by_hand();
-        kinds_worked_by_hand();
-        unknowns_worked_by_hand();
-        pattern_worked_by_hand();
-        tables_worked_by_hand();
-    }
-}

@@ -74,26 +74,3 @@ pub fn meanings_worked_by_hand()
 pub fn types_worked_by_hand()
     ensures { WorkedTypeLists }
 {}
-
-#[cfg(test)]
-mod tests {
-    use super::*;
-
-    #[test]
-    fn worked_rows_hold(_rt: HostRuntime) {
-        unknown_names_worked_by_hand();
-        second_declarations_worked_by_hand();
-        wrong_kinds_worked_by_hand();
-        accesses_worked_by_hand();
-        disciplines_worked_by_hand();
-        functions_worked_by_hand();
-        cycles_worked_by_hand();
-        left_out_worked_by_hand();
-        arguments_worked_by_hand();
-        constants_worked_by_hand();
-        remainders_worked_by_hand();
-        phases_worked_by_hand();
-        meanings_worked_by_hand();
-        types_worked_by_hand();
-    }
-}

@@ -14,10 +14,6 @@ pub mod module;
 pub mod name;
 pub mod source;
 pub mod stmt;
-#[cfg(test)]
-mod tests;
-#[cfg(test)]
-mod trees;
 pub mod worked;
 
 pub use expr::{Arg, BinaryOp, Callee, Expr, UnaryOp};

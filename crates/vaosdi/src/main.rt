@@ -1,24 +1,13 @@
 //! Compiles Verilog-A compact models to C for the Open Source Device Interface.
 #![tactic(auto)]
 
-pub mod command;
-mod compile;
-mod due;
-mod fault_line;
-mod front;
-mod read_file;
-mod request;
-pub mod status;
-#[cfg(test)]
-mod tests;
-
 use alg_laws::Whole;
-use command::run;
 use std::alloc::AllocError;
 use std::env;
 use std::io::ErrorKind;
 use std::marker::PhantomData;
 use std::process::ExitCode;
+use va_command::run;
 use va_io::{DirFiles, StdSink};
 
 /// The statuses where the words themselves can't be had: for want of memory, and for any other cause. The second is no

@@ -17,7 +17,7 @@ use Rattle.c_tree.specs.declared.load.LoadFunction.{LoadFunction}
 use Rattle.c_tree.specs.declared.load.LoadFunction.TheVariants.{ResidualResist, ResidualReact, JacobianResist, JacobianReact, JacobianTran, SpiceRhsDc, SpiceRhsTran}
 use Rattle.c_tree.specs.declared.load.LoadTarget.{LoadTarget}
 use Rattle.c_tree.specs.declared.load.LoadTarget.TheVariants as target
-use Rattle.c_tree.specs.Machine.{same_type}
+use Rattle.c_tree.specs.SameType.{same_type}
 use Rattle.c_tree.specs.Raw.{At, word_at, RawSimple, report, RawBlock, closed, simple, leave, choice, loop, RawLoad, RawLoads, RawModule, RawFile}
 use Rattle.c_tree.specs.Text.{load_functions}
 use Rattle.c_tree.specs.rules.Bodies.{Item, Scoped, BodyKind, a_function, setup_of_model, setup_of_instance, evaluation, RawBody, items_of, items_in, atoms_of, unknown_of, set_cells, set_flags, of_statement, repeated, in_modules, in_bodies}

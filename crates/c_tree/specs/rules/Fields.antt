@@ -11,7 +11,7 @@ use Rattle.c_tree.specs.declared.body.Level.{Level}
 use Rattle.c_tree.specs.declared.body.Level.TheVariants.{Instance, Model}
 use Rattle.c_tree.specs.declared.load.LoadFactor.{LoadFactor}
 use Rattle.c_tree.specs.declared.load.LoadFactor.TheVariants as factor
-use Rattle.c_tree.specs.Machine.{same_type}
+use Rattle.c_tree.specs.SameType.{same_type}
 use Rattle.c_tree.specs.Raw.{At, word_at, RawField, RawAccess, RawLoad, RawLoads, RawNode, RawModule, RawFile}
 use Rattle.c_tree.specs.Text.{field_word}
 use Rattle.c_tree.specs.rules.Bodies.{RawBody, Scoped, items_of, bodies_of, atoms_of, cell_of, set_cells, of_statement, in_modules}

@@ -10,7 +10,7 @@ use Rattle.c_tree.specs.declared.body.CCallee.{CCallee}
 use Rattle.c_tree.specs.declared.body.CCallee.TheVariants as callee
 use Rattle.c_tree.specs.declared.body.COperator.{COperator}
 use Rattle.c_tree.specs.declared.body.COperator.TheVariants.{Plus, Minus, Times, Over, Remainder}
-use Rattle.c_tree.specs.Machine.{same_type}
+use Rattle.c_tree.specs.SameType.{same_type}
 use Rattle.c_tree.specs.Raw.{At, RawRight, same, negated, contrary, to_real, to_integer, call, binary, RawSimple, constant, join, head, assign, set_cell, set_flag, report, RawArgument, RawFunction, RawModule, RawFile}
 use Rattle.c_tree.specs.rules.Bodies.{Declared, Item, of_simple, of_test, of_value, Scoped, BodyKind, a_function, RawBody, items_of, in_bodies}
 use Rattle.c_tree.specs.rules.Fields.{cell_type}

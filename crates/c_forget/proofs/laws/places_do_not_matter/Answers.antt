@@ -1,5 +1,0 @@
-use Rattle.c_forget.proofs.Places.{places_do_not_matter}
-use Rattle.c_forget.proofs.laws.places_do_not_matter.Goals as goal
-
-pub returns : goal.returns
-returns c = places_do_not_matter

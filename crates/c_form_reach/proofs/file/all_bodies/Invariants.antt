@@ -1,0 +1,14 @@
+use Rattle.std.proofs.Common.{ℕ, drop}
+use Rattle.std.specs.Prelude.{Option}
+use Rattle.c_tree.specs.rules.Cells.{cells_of_body}
+use Rattle.c_form.specs.Bodies.{body_view}
+use Rattle.c_form.specs.Blames.{Blames}
+use Rattle.c_form.proofs.Blaming.{parts_of}
+use Rattle.c_tree.specs.Raw.{RawModule}
+use Rattle.c_form_reach.proofs.file.all_bodies.Given as goal
+
+-- whatever blames what is left blames it all
+abbrev pub invariant-loop-body : goal.invariant-loop-body
+invariant-loop-body l =
+    (m : RawModule) → (new : Option ℕ) → Blames l.least new (parts_of body_view (cells_of_body m) (drop l.body-index l.list))
+    → Blames l.fn.least new (parts_of body_view (cells_of_body m) l.list)

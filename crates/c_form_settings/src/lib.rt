@@ -1,0 +1,15 @@
+//! The rule of form on the settings of locals, asked of the raw tree of a C text: which is the least token that breaks it.
+//!
+//! A constant is never set again. A local that is declared without a value is set once in each arm of the next `if` of its block,
+//! one that is declared with a value and isn't constant once in the next `for`, behind its `break`.
+//!
+//! One pass over a body keeps for each declared local how far its settings have come, and for each open block the locals that
+//! depend on it; a statement looks only at the locals that it names and at those that the block lists for it.
+#![tactic(auto)]
+
+mod duty;
+mod follow;
+mod pass;
+pub mod settings;
+mod simple;
+mod state;

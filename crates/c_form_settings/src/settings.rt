@@ -1,0 +1,105 @@
+//! How often locals are set, and where.
+ghost use Rattle.std.specs.Prelude.{◌≡◌, ◌∷◌, IfOk, OnOk, map, true};
+ghost use Rattle.std.specs.List.{flat_map, list_all};
+ghost use Rattle.c_tree.specs.Form.{least_of};
+ghost use Rattle.c_tree.specs.rules.Bodies as bodies;
+ghost use Rattle.c_tree.specs.rules.Settings.{set_as_declared, settings_in};
+ghost use Rattle.c_raw.specs.Blocks.{block_view, is_body};
+ghost use Rattle.c_raw.specs.Views.{file_view, has_bodies, module_has_bodies, module_view};
+ghost use Rattle.c_form.specs.Blames.{Blames};
+ghost use Rattle.c_form.specs.Bodies.{body_view, is_one_block};
+ghost use Rattle.c_form_settings.specs.Passes.{IsPass, Keeps};
+ghost use Rattle.c_form_settings.specs.Walks.{settings_flat};
+
+use crate::pass::{Pass, close, leave, no_locals, open_choice, open_loop};
+use crate::simple::{read, simple};
+use c_form::body::{Body, bodies_of, statements};
+use c_raw::{RawFile, RawModule, RawStatement};
+use std::alloc::Global;
+use va_base::NoMemory;
+
+/// Goes behind a statement.
+fn step(
+    alloc: Global,
+    pass: &mut Pass,
+    least: &mut Option<usize>,
+    statement: &RawStatement,
+    rest: &[RawStatement],
+) -> Result<(), NoMemory>
+    ensures { OnOk result (IsPass pass.old → IsPass pass.new × Keeps least.old least.new pass.old pass.new
+        (statement.now ∷ rest.now) rest.now (settings_flat (statement.now ∷ rest.now)) (settings_flat rest.now)) }
+{
+    match statement {
+        RawStatement::Simple(inner) => simple(alloc, pass, least, inner, rest)?,
+        RawStatement::Leave { test, .. } => {
+            read(pass, least, *test);
+            leave(alloc, pass)?;
+        }
+        RawStatement::If { test } => {
+            read(pass, least, *test);
+            open_choice(alloc, pass)?;
+        }
+        RawStatement::For => open_loop(alloc, pass)?,
+        RawStatement::End { at } => close(pass, least, *at as usize)?,
+    }
+    Ok(())
+}
+
+fn block(alloc: Global, least: &mut Option<usize>, list: &[RawStatement]) -> Result<(), NoMemory>
+    requires { is_body list.now ≡ true }
+    ensures { OnOk result (Blames least.old least.new (settings_in (block_view list.now))) }
+{
+    let mut pass = no_locals(alloc);
+    for (index, statement) in list.iter().enumerate() {
+        step(alloc, &mut pass, least, statement, &list[index + 1..])?;
+    }
+    Ok(())
+}
+
+fn all_bodies(alloc: Global, least: &mut Option<usize>, list: &[Body]) -> Result<(), NoMemory>
+    requires { list_all is_one_block list.now ≡ true }
+    ensures { OnOk result (Blames least.old least.new
+        (flat_map (λ b. settings_in (bodies.RawBody.block b)) (map body_view list.now))) }
+{
+    for body in list {
+        block(alloc, least, statements(body))?;
+    }
+    Ok(())
+}
+
+fn one_module(alloc: Global, least: &mut Option<usize>, tree: &RawModule) -> Result<(), NoMemory>
+    requires { module_has_bodies tree.now ≡ true }
+    ensures { OnOk result (Blames least.old least.new
+        (flat_map (λ b. settings_in (bodies.RawBody.block b)) (bodies.bodies_of (module_view tree.now)))) }
+{
+    let list = bodies_of(alloc, tree)?;
+    all_bodies(alloc, least, &list)?;
+    Ok(())
+}
+
+fn modules(alloc: Global, least: &mut Option<usize>, list: &[RawModule]) -> Result<(), NoMemory>
+    requires { list_all module_has_bodies list.now ≡ true }
+    ensures { OnOk result (Blames least.old least.new
+        (flat_map (λ m. flat_map (λ b. settings_in (bodies.RawBody.block b)) (bodies.bodies_of m)) (map module_view list.now))) }
+{
+    for tree in list {
+        one_module(alloc, least, tree)?;
+    }
+    Ok(())
+}
+
+/// The least token at which a local is set that is not to be set there, or is read before the `if` that sets it, or the closing
+/// brace of a block that lacks a setting. None where each local is set as its declaration says.
+///
+/// A constant is never set again. A local that is declared without a value is set once in the direct block of each arm of the
+/// next `if` with two arms of its block, and read only behind that `if`. One that is declared with a value and isn't constant is
+/// set once in the direct block of the next `for` of its block, behind the `break`. Where that `if` or `for` is missing, the
+/// closing brace of the block of the declaration is blamed.
+pub fn settings_fault(alloc: Global, raw: &RawFile) -> Result<Option<usize>, NoMemory>
+    requires { has_bodies raw.now ≡ true }
+    ensures { IfOk result (λ least. least ≡ least_of (set_as_declared (file_view raw.now))) }
+{
+    let mut least = None;
+    modules(alloc, &mut least, raw.modules.as_list())?;
+    Ok(least)
+}

@@ -1,0 +1,163 @@
+//! What a statement without blocks does at a place of a body: it reads locals, sets one, or declares one.
+ghost use Rattle.std.specs.Prelude.{◌≡◌, ◌∷◌, ◌++◌, ℕ, List, [], OnOk, Some, map, nat_eq, true};
+ghost use Rattle.std.specs.List.{flat_map};
+ghost use Rattle.indexmap.specs.IndexMap.{get};
+ghost use Rattle.c_tree.specs.rules.Bodies.{assigned, atoms_of_simple};
+ghost use Rattle.c_raw.specs.Blocks.{at_view, simple_view};
+ghost use Rattle.c_raw.specs.declared.body.RawStatement.{RawStatement as SpecStatement};
+ghost use Rattle.c_raw.specs.declared.body.RawStatement.TheVariants.{Simple};
+ghost use Rattle.c_form.specs.Blames.{Blames};
+ghost use Rattle.c_form_settings.specs.Passes.{IsPass, Keeps, blocks, depth_of, early_in, is_live as is_live_lem, numbers_in, told, wrong_in};
+ghost use Rattle.c_form_settings.specs.Starts.{start_flat};
+ghost use Rattle.c_form_settings.specs.Walks.{declaration_flat};
+ghost use Rattle.c_form_settings.specs.declared.state.Event.TheVariants as event;
+
+use crate::duty::{is_unread, is_unset, wants_setting};
+use crate::follow::{Start, declared, follow};
+use crate::pass::{Pass, declare, depth, duty_of, is_live, tell};
+use crate::state::{Event, is_due};
+use c_form::atoms::simple_atoms;
+use c_form::blame::blame_unless;
+use c_raw::{At, RawSimple, RawStatement};
+use c_tree::CAtom;
+use std::alloc::Global;
+use va_base::NoMemory;
+
+/// Blames an atom that reads a local too early.
+pub fn read(pass: &Pass, least: &mut Option<usize>, atom: At<CAtom>)
+    ensures { Blames least.old least.new (early_in pass.now (at_view atom)) }
+{
+    if let CAtom::Local(number) = atom.value {
+        let unread = is_unread(duty_of(pass, number));
+        blame_unless(least, !unread, atom.at as usize);
+    }
+}
+
+fn read_all(pass: &Pass, least: &mut Option<usize>, atoms: &[At<CAtom>])
+    ensures { Blames least.old least.new (flat_map (early_in pass.now) (map at_view atoms.now)) }
+{
+    for atom in atoms {
+        read(pass, least, *atom);
+    }
+}
+
+/// Blames the atoms of a statement that read a local too early.
+pub fn reads(
+    alloc: Global,
+    pass: &Pass,
+    least: &mut Option<usize>,
+    statement: &RawSimple,
+) -> Result<(), NoMemory>
+    ensures { OnOk result (Blames least.old least.new (flat_map (early_in pass.now) (atoms_of_simple (simple_view statement.now)))) }
+{
+    let atoms = simple_atoms(alloc, statement)?;
+    read_all(pass, least, &atoms);
+    Ok(())
+}
+
+/// Sets a local, and blames the token where it is not to be set.
+fn set_local(pass: &mut Pass, least: &mut Option<usize>, local: At<u32>) -> Result<(), NoMemory>
+    ensures blames { OnOk result (Blames least.old least.new (wrong_in pass.old (at_view local ∷ []))) }
+    ensures blocks { OnOk result (blocks pass.new ≡ blocks pass.old) }
+    ensures told { OnOk result ((i : ℕ) → get nat_eq pass.new.locals i
+        ≡ told event.Set (depth_of pass.old) i (local.value ∷ []) (get nat_eq pass.old.locals i)) }
+{
+    let wanted = wants_setting(duty_of(pass, local.value));
+    let dead = !is_live(pass, local.value);
+    blame_unless(least, dead || wanted, local.at as usize);
+    let opened = depth(pass);
+    tell(&mut pass.locals, Event::Set, opened, local.value)?;
+    Ok(())
+}
+
+fn sets(pass: &mut Pass, least: &mut Option<usize>, statement: &RawSimple) -> Result<(), NoMemory>
+    ensures blames { OnOk result (Blames least.old least.new (wrong_in pass.old (assigned (simple_view statement.now)))) }
+    ensures blocks { OnOk result (blocks pass.new ≡ blocks pass.old) }
+    ensures told { OnOk result ((i : ℕ) → get nat_eq pass.new.locals i
+        ≡ told event.Set (depth_of pass.old) i (numbers_in (assigned (simple_view statement.now))) (get nat_eq pass.old.locals i)) }
+{
+    match statement {
+        RawSimple::Assign { local, .. } => set_local(pass, least, *local)?,
+        RawSimple::Constant { .. } => {}
+        RawSimple::Join { .. } => {}
+        RawSimple::Head { .. } => {}
+        RawSimple::SetCell { .. } => {}
+        RawSimple::SetCollapse { .. } => {}
+        RawSimple::Report { .. } => {}
+    }
+    Ok(())
+}
+
+/// What a statement reads and sets.
+fn uses(
+    alloc: Global,
+    pass: &mut Pass,
+    least: &mut Option<usize>,
+    statement: &RawSimple,
+) -> Result<(), NoMemory>
+    ensures { OnOk result (IsPass pass.old → IsPass pass.new
+        × ((rest : List SpecStatement) (others : List ℕ)
+        → Keeps least.old least.new pass.old pass.new (Simple statement.now ∷ rest) rest others others)) }
+{
+    reads(alloc, pass, least, statement)?;
+    sets(pass, least, statement)?;
+    Ok(())
+}
+
+/// What a declaration adds whose number has its local in an open block already, which breaks another rule. Such a second local is
+/// followed at once, as far as something else is due of it.
+fn declares_again(
+    alloc: Global,
+    pass: &Pass,
+    least: &mut Option<usize>,
+    start: Start,
+    rest: &[RawStatement],
+) -> Result<(), NoMemory>
+    ensures { OnOk result (IsPass pass.now → is_live_lem (get nat_eq pass.now.locals start.number) ≡ true → (others : List ℕ)
+        → Keeps least.old least.new pass.now pass.now rest.now rest.now (start_flat (Some start) rest.now ++ others) others) }
+{
+    let due = duty_of(pass, start.number);
+    if !is_due(due, start.state) {
+        follow(alloc, least, start, rest, is_unset(due))?;
+    }
+    Ok(())
+}
+
+/// What a declaration adds.
+fn declares(
+    alloc: Global,
+    pass: &mut Pass,
+    least: &mut Option<usize>,
+    statement: &RawSimple,
+    rest: &[RawStatement],
+) -> Result<(), NoMemory>
+    ensures { OnOk result (IsPass pass.old → IsPass pass.new × ((others : List ℕ)
+        → Keeps least.old least.new pass.old pass.new rest.now rest.now (declaration_flat statement.now rest.now ++ others) others)) }
+{
+    let Some(start) = declared(statement) else {
+        return Ok(());
+    };
+    if is_live(pass, start.number) {
+        declares_again(alloc, pass, least, start, rest)?;
+    } else {
+        declare(pass, start.number, start.state)?;
+    }
+    Ok(())
+}
+
+/// Goes behind a statement without blocks.
+pub fn simple(
+    alloc: Global,
+    pass: &mut Pass,
+    least: &mut Option<usize>,
+    statement: &RawSimple,
+    rest: &[RawStatement],
+) -> Result<(), NoMemory>
+    ensures { OnOk result (IsPass pass.old → IsPass pass.new × ((others : List ℕ)
+        → Keeps least.old least.new pass.old pass.new (Simple statement.now ∷ rest.now) rest.now
+        (declaration_flat statement.now rest.now ++ others) others)) }
+{
+    uses(alloc, pass, least, statement)?;
+    declares(alloc, pass, least, statement, rest)?;
+    Ok(())
+}

@@ -1,0 +1,13 @@
+use Rattle.std.proofs.Common.{ℕ, drop}
+use Rattle.std.specs.Prelude.{Option}
+use Rattle.c_raw.specs.Views.{module_view}
+use Rattle.c_form.specs.Blames.{Blames}
+use Rattle.c_form.proofs.Blaming.{parts_of}
+use Rattle.c_form_types.specs.Places.{module_blamed}
+use Rattle.c_form_types.proofs.file.modules.Given as goal
+
+-- whatever blames what is left blames it all
+abbrev pub invariant-loop-tree : goal.invariant-loop-tree
+invariant-loop-tree l =
+    (new : Option ℕ) → Blames l.least new (parts_of module_view module_blamed (drop l.tree-index l.list))
+    → Blames l.fn.least new (parts_of module_view module_blamed l.list)

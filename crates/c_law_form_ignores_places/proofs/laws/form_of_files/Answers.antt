@@ -1,0 +1,5 @@
+use Rattle.c_law_form_ignores_places.proofs.Files.{form_of_files}
+use Rattle.c_law_form_ignores_places.proofs.laws.form_of_files.Goals as goal
+
+pub returns : goal.returns
+returns c = form_of_files

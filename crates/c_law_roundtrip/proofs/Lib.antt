@@ -1,0 +1,14 @@
+pub mod Kept
+pub mod FieldNames
+pub mod BodyRaw
+pub mod FunctionRaw
+pub mod LoadRaw
+pub mod TableRaw
+pub mod Bearing
+pub mod BearingWords
+pub mod BearingBodies
+pub mod BearingModules
+pub mod Numbers
+pub mod FileRaw
+pub mod Standing
+pub mod Itself

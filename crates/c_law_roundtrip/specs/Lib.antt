@@ -1,0 +1,3 @@
+pub mod Reprint
+pub mod Worked
+pub mod Reread

@@ -1,0 +1,10 @@
+pub mod Endings
+pub mod Following
+pub mod Formed
+pub mod Keeping
+pub mod Never
+pub mod Operands
+pub mod Reach
+pub mod Slots
+pub mod Sound
+pub mod Unstuck

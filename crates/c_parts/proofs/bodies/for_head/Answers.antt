@@ -1,5 +1,0 @@
-use Rattle.c_parts.proofs.Statements.{for_head}
-use Rattle.c_parts.proofs.bodies.for_head.Goals as goal
-
-pub returns : goal.returns
-returns c text = for_head text _ _ _ c.in_ok-take.ensures c.in_ok-pass.ensures

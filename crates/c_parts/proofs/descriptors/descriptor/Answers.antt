@@ -1,9 +1,0 @@
-use Rattle.std.proofs.Common.{arith}
-use Rattle.c_parts.specs.Reading.{row_symbols}
-use Rattle.c_parts.specs.RawTables.{descriptor as descriptor_lem}
-use Rattle.c_parts.proofs.TakenRows.{element}
-use Rattle.c_parts.proofs.descriptors.descriptor.Goals as goal
-
-pub returns : goal.returns
-unfolding row_symbols descriptor_lem
-returns c = element (descriptor_lem c.args.text.now) 142 _ _ _ (grind arith) (grind arith) (grind arith) (grind arith) (grind arith) (grind arith)

@@ -1,8 +1,0 @@
-use Rattle.std.proofs.Common.{arith, refl}
-use Rattle.c_parts.specs.Reading.{row_symbols}
-use Rattle.c_parts.proofs.TakenRows.{read}
-use Rattle.c_parts.proofs.headers.help.Goals as goal
-
-pub returns : goal.returns
-unfolding row_symbols
-returns c = read {X = Unit {0}} (λ p. tt {0}) _ _ _ _ 1 _ c.in_ok-take.ensures refl refl (grind arith) (grind arith) (grind arith)

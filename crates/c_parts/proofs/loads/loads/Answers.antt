@@ -1,9 +1,0 @@
-use Rattle.std.proofs.Common.{arith, refl}
-use Rattle.c_parts.specs.Reading.{row_symbols}
-use Rattle.c_parts.specs.RawTables.{loads as loads_lem}
-use Rattle.c_parts.proofs.TakenRows.{read}
-use Rattle.c_parts.proofs.loads.loads.Goals as goal
-
-pub returns : goal.returns
-unfolding row_symbols loads_lem
-returns c = read (loads_lem c.args.text.now) _ _ _ _ 89 _ c.in_ok-take.ensures refl (grind arith) (grind arith) (grind arith) (grind arith)

@@ -1,6 +1,0 @@
-use Rattle.std.proofs.Common.{arith}
-use Rattle.c_parts.proofs.Trees.{raw_read}
-use Rattle.c_parts.proofs.raw.read_raw.Goals as goal
-
-pub returns-in-Ok-clause-raw : goal.returns-in-Ok-clause-raw
-returns-in-Ok-clause-raw c = raw_read c.args.bytes.now c.args.parsed.now.tokens.items c.args.parsed.now.tree _ c.requires (grind arith)

@@ -1,9 +1,0 @@
-use Rattle.std.proofs.Common.{arith, refl}
-use Rattle.c_parts.specs.Reading.{row_symbols}
-use Rattle.c_parts.specs.RawBodies.{simple_of}
-use Rattle.c_parts.proofs.Statements.{alone_read}
-use Rattle.c_parts.proofs.simple.assigned.Goals as goal
-
-pub returns : goal.returns
-unfolding row_symbols simple_of
-returns c = alone_read c.args.text.now _ _ _ _ 37 _ c.in_ok-take.ensures refl (grind arith) (grind arith) (grind arith) (grind arith) (λ text at more. refl)

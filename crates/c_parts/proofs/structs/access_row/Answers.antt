@@ -1,9 +1,0 @@
-use Rattle.std.proofs.Common.{arith}
-use Rattle.c_parts.specs.Reading.{row_symbols}
-use Rattle.c_parts.specs.RawFiles.{access_row as access_row_lem}
-use Rattle.c_parts.proofs.TakenRows.{element}
-use Rattle.c_parts.proofs.structs.access_row.Goals as goal
-
-pub returns : goal.returns
-unfolding row_symbols access_row_lem
-returns c = element (access_row_lem c.args.text.now) 17 _ _ _ (grind arith) (grind arith) (grind arith) (grind arith) (grind arith) (grind arith)

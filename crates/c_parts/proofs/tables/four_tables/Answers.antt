@@ -1,9 +1,0 @@
-use Rattle.std.proofs.Common.{arith, refl}
-use Rattle.c_parts.specs.Reading.{row_symbols}
-use Rattle.c_parts.specs.TableParts.{tables_of}
-use Rattle.c_parts.proofs.TakenRows.{read}
-use Rattle.c_parts.proofs.tables.four_tables.Goals as goal
-
-pub returns : goal.returns
-unfolding row_symbols tables_of
-returns c = read (tables_of c.args.text.now) _ _ _ _ 111 _ c.in_ok-take.ensures refl (grind arith) (grind arith) (grind arith) (grind arith)

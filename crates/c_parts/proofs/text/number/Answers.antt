@@ -1,7 +1,0 @@
-use Rattle.std.proofs.Common.{refl}
-use Rattle.va_base.specs.Numerals.{number_of}
-use Rattle.c_parts.proofs.text.number.Goals as goal
-
-pub loop-byte-init : goal.loop-byte-init
-unfolding number_of
-loop-byte-init c = refl

@@ -1,0 +1,256 @@
+//! Reading load functions.
+ghost use Rattle.std.specs.Prelude.{◌≡◌, IfOk, map};
+ghost use Rattle.c_raw.specs.Blocks.{at_view};
+ghost use Rattle.c_raw.specs.Views.{load_view, loads_view};
+ghost use Rattle.c_raw_build.specs.Reading.{Reads};
+ghost use Rattle.c_raw_build.specs.RawTables.{matrix_target as matrix_target_lem, target_of, sign_of, factor_of, placed_factor as placed_factor_lem, more_factors as more_factors_lem, load_statements as load_statements_lem, load_function as load_function_lem, loads as loads_lem};
+
+use crate::atoms::{field, node_number, number};
+use crate::headers::instance;
+use crate::reader::Reader;
+use crate::row;
+use crate::text::Text;
+use c_raw::{At, RawLoad, RawLoads};
+use c_tree::{LoadFactor, LoadSign, LoadTarget};
+use std::alloc::{AllocError, Global};
+use va_base::Items;
+
+/// The matrix's place for an entry, in `* inst -> jr [ 1u ]`.
+fn matrix_target(text: &Text<'_>, reader: &mut Reader<'_>) -> Result<LoadTarget, AllocError>
+    ensures { IfOk result (λ v. Reads (matrix_target_lem text.now) reader.old reader.new v) }
+{
+    let row = reader.row()?;
+    reader.pass(2)?;
+    let entry = number(text, reader)?;
+    reader.pass(1)?;
+    match row {
+        row::RESIST_TARGET => Ok(LoadTarget::EntryResist(entry)),
+        row::REACT_TARGET => Ok(LoadTarget::EntryReact(entry)),
+        _ => Err(AllocError),
+    }
+}
+
+/// Where a load adds.
+fn target(text: &Text<'_>, reader: &mut Reader<'_>) -> Result<LoadTarget, AllocError>
+    ensures { IfOk result (λ v. Reads (target_of text.now) reader.old reader.new v) }
+{
+    match reader.row()? {
+        row::NODE_TARGET => {
+            reader.pass(2)?;
+            let node = node_number(text, reader)?;
+            reader.pass(1)?;
+            Ok(LoadTarget::Node(node))
+        }
+        row::MATRIX_TARGET => {
+            reader.pass(3)?;
+            let target = matrix_target(text, reader)?;
+            Ok(target)
+        }
+        _ => Err(AllocError),
+    }
+}
+
+/// `=`, `+=` or `-=`.
+fn sign(reader: &mut Reader<'_>) -> Result<LoadSign, AllocError>
+    ensures { IfOk result (λ v. Reads sign_of reader.old reader.new v) }
+{
+    let row = reader.row()?;
+    reader.pass(1)?;
+    match row {
+        row::PUT => Ok(LoadSign::Put),
+        row::ADD => Ok(LoadSign::Add),
+        row::SUBTRACT => Ok(LoadSign::Subtract),
+        _ => Err(AllocError),
+    }
+}
+
+/// A factor.
+fn factor(text: &Text<'_>, reader: &mut Reader<'_>) -> Result<LoadFactor, AllocError>
+    ensures { IfOk result (λ v. Reads (factor_of text.now) reader.old reader.new v) }
+{
+    match reader.row()? {
+        row::ALPHA => {
+            reader.pass(1)?;
+            Ok(LoadFactor::Alpha)
+        }
+        row::CELL_FACTOR => {
+            reader.pass(2)?;
+            let field = field(text, reader)?;
+            Ok(LoadFactor::Cell(field))
+        }
+        row::SOLUTION_FACTOR => {
+            reader.pass(2)?;
+            let node = node_number(text, reader)?;
+            reader.pass(1)?;
+            Ok(LoadFactor::Solution(node))
+        }
+        _ => Err(AllocError),
+    }
+}
+
+/// A factor, with the index of its first token.
+fn placed_factor(text: &Text<'_>, reader: &mut Reader<'_>) -> Result<At<LoadFactor>, AllocError>
+    ensures { IfOk result (λ v. Reads (placed_factor_lem text.now) reader.old reader.new (at_view v)) }
+{
+    let at = reader.at();
+    let value = factor(text, reader)?;
+    Ok(At { at, value })
+}
+
+/// The factors behind the first.
+fn more_factors(
+    alloc: Global,
+    text: &Text<'_>,
+    reader: &mut Reader<'_>,
+) -> Result<Vec<At<LoadFactor>>, AllocError>
+    ensures { IfOk result (λ v. Reads (more_factors_lem text.now) reader.old reader.new (map at_view v.items)) }
+{
+    let mut list = Vec::new(alloc);
+    loop {
+        match reader.row()? {
+            row::MORE_FACTORS => {
+                reader.pass(1)?;
+                let next = placed_factor(text, reader)?;
+                list.push(next)?;
+            }
+            row::NO_MORE_FACTORS => return Ok(list),
+            _ => return Err(AllocError),
+        }
+    }
+}
+
+/// The statements of a load function.
+fn load_statements(
+    alloc: Global,
+    text: &Text<'_>,
+    reader: &mut Reader<'_>,
+) -> Result<Vec<RawLoad>, AllocError>
+    ensures { IfOk result (λ v. Reads (load_statements_lem text.now) reader.old reader.new (map load_view v.items)) }
+{
+    let mut list = Vec::new(alloc);
+    loop {
+        match reader.row()? {
+            row::LOAD => {
+                let at = reader.at();
+                let target = target(text, reader)?;
+                let sign = sign(reader)?;
+                let first = placed_factor(text, reader)?;
+                let more = more_factors(alloc, text, reader)?;
+                reader.pass(1)?;
+                list.push(load(at, target, sign, first, more))?;
+            }
+            row::NO_LOAD => return Ok(list),
+            _ => return Err(AllocError),
+        }
+    }
+}
+
+/// A statement of a load function, whose target begins at `at`.
+fn load(
+    at: u32,
+    target: LoadTarget,
+    sign: LoadSign,
+    first: At<LoadFactor>,
+    more: Vec<At<LoadFactor>>,
+) -> RawLoad
+    ensures target { (load_view result).target ≡ record { at = at; value = target } }
+    ensures sign { (load_view result).sign ≡ sign }
+    ensures first { (load_view result).first ≡ at_view first }
+    ensures more { (load_view result).more ≡ map at_view more.items }
+{
+    RawLoad {
+        target: At { at, value: target },
+        sign,
+        first,
+        more: Items::new(more),
+    }
+}
+
+/// A load function.
+fn load_function(
+    alloc: Global,
+    text: &Text<'_>,
+    reader: &mut Reader<'_>,
+) -> Result<Vec<RawLoad>, AllocError>
+    ensures { IfOk result (λ v. Reads (load_function_lem text.now) reader.old reader.new (map load_view v.items)) }
+{
+    match reader.row()? {
+        row::RESIDUAL_RESIST => {
+            reader.pass(17)?;
+            instance(reader)?;
+            let list = load_statements(alloc, text, reader)?;
+            reader.pass(1)?;
+            Ok(list)
+        }
+        row::RESIDUAL_REACT => {
+            reader.pass(17)?;
+            instance(reader)?;
+            let list = load_statements(alloc, text, reader)?;
+            reader.pass(1)?;
+            Ok(list)
+        }
+        row::JACOBIAN_RESIST => {
+            reader.pass(13)?;
+            instance(reader)?;
+            let list = load_statements(alloc, text, reader)?;
+            reader.pass(1)?;
+            Ok(list)
+        }
+        row::JACOBIAN_REACT => {
+            reader.pass(16)?;
+            instance(reader)?;
+            let list = load_statements(alloc, text, reader)?;
+            reader.pass(1)?;
+            Ok(list)
+        }
+        row::JACOBIAN_TRAN => {
+            reader.pass(16)?;
+            instance(reader)?;
+            let list = load_statements(alloc, text, reader)?;
+            reader.pass(1)?;
+            Ok(list)
+        }
+        row::SPICE_RHS_DC => {
+            reader.pass(21)?;
+            instance(reader)?;
+            let list = load_statements(alloc, text, reader)?;
+            reader.pass(1)?;
+            Ok(list)
+        }
+        row::SPICE_RHS_TRAN => {
+            reader.pass(24)?;
+            instance(reader)?;
+            let list = load_statements(alloc, text, reader)?;
+            reader.pass(1)?;
+            Ok(list)
+        }
+        _ => Err(AllocError),
+    }
+}
+
+/// The load functions.
+pub(crate) fn loads(
+    alloc: Global,
+    text: &Text<'_>,
+    reader: &mut Reader<'_>,
+) -> Result<RawLoads, AllocError>
+    ensures { IfOk result (λ v. Reads (loads_lem text.now) reader.old reader.new (loads_view v)) }
+{
+    reader.take(row::LOADS)?;
+    let residual_resist = load_function(alloc, text, reader)?;
+    let residual_react = load_function(alloc, text, reader)?;
+    let jacobian_resist = load_function(alloc, text, reader)?;
+    let jacobian_react = load_function(alloc, text, reader)?;
+    let jacobian_tran = load_function(alloc, text, reader)?;
+    let spice_rhs_dc = load_function(alloc, text, reader)?;
+    let spice_rhs_tran = load_function(alloc, text, reader)?;
+    Ok(RawLoads {
+        residual_resist: Items::new(residual_resist),
+        residual_react: Items::new(residual_react),
+        jacobian_resist: Items::new(jacobian_resist),
+        jacobian_react: Items::new(jacobian_react),
+        jacobian_tran: Items::new(jacobian_tran),
+        spice_rhs_dc: Items::new(spice_rhs_dc),
+        spice_rhs_tran: Items::new(spice_rhs_tran),
+    })
+}

@@ -1,0 +1,127 @@
+//! Reading right sides.
+ghost use Rattle.std.specs.Prelude.{IfOk, map};
+ghost use Rattle.c_raw.specs.Blocks.{at_view, right_view};
+ghost use Rattle.c_raw_build.specs.Reading.{Reads};
+ghost use Rattle.c_raw_build.specs.RawAtoms.{values as values_lem, operation as operation_lem, conversion as conversion_lem, right_of};
+
+use crate::atoms::{callee, operator, placed_atom};
+use crate::reader::Reader;
+use crate::row;
+use crate::text::Text;
+use c_raw::{At, RawRight};
+use c_tree::CAtom;
+use std::alloc::{AllocError, Global};
+use va_base::Items;
+
+/// The arguments of a call.
+fn values(
+    alloc: Global,
+    text: &Text<'_>,
+    reader: &mut Reader<'_>,
+) -> Result<Vec<At<CAtom>>, AllocError>
+    ensures { IfOk result (λ v. Reads (values_lem text.now) reader.old reader.new (map at_view v.items)) }
+{
+    let mut list = Vec::new(alloc);
+    loop {
+        match reader.row()? {
+            row::VALUES => {
+                let first = placed_atom(text, reader)?;
+                list.push(first)?;
+            }
+            row::MORE_VALUES => {
+                reader.pass(1)?;
+                let next = placed_atom(text, reader)?;
+                list.push(next)?;
+            }
+            row::NO_VALUES => return Ok(list),
+            row::NO_MORE_VALUES => return Ok(list),
+            _ => return Err(AllocError),
+        }
+    }
+}
+
+/// An operator and its right operand behind a left one, if they stand there.
+fn operation(
+    text: &Text<'_>,
+    reader: &mut Reader<'_>,
+    left: At<CAtom>,
+) -> Result<RawRight, AllocError>
+    ensures { IfOk result (λ v. Reads (operation_lem text.now (at_view left)) reader.old reader.new (right_view v)) }
+{
+    match reader.row()? {
+        row::OPERATION => {
+            let operator = operator(reader)?;
+            let right = placed_atom(text, reader)?;
+            Ok(RawRight::Binary {
+                left,
+                operator,
+                right,
+            })
+        }
+        row::NO_OPERATION => Ok(RawRight::Same(left)),
+        _ => Err(AllocError),
+    }
+}
+
+/// A conversion, behind its first bracket.
+fn conversion(text: &Text<'_>, reader: &mut Reader<'_>) -> Result<RawRight, AllocError>
+    ensures { IfOk result (λ v. Reads (conversion_lem text.now) reader.old reader.new (right_view v)) }
+{
+    match reader.row()? {
+        row::TO_REAL => {
+            reader.pass(2)?;
+            let value = placed_atom(text, reader)?;
+            Ok(RawRight::ToReal(value))
+        }
+        row::TO_INTEGER => {
+            reader.pass(4)?;
+            let value = placed_atom(text, reader)?;
+            reader.pass(1)?;
+            Ok(RawRight::ToInteger(value))
+        }
+        _ => Err(AllocError),
+    }
+}
+
+/// A right side.
+pub(crate) fn right(
+    alloc: Global,
+    text: &Text<'_>,
+    reader: &mut Reader<'_>,
+) -> Result<RawRight, AllocError>
+    ensures { IfOk result (λ v. Reads (right_of text.now) reader.old reader.new (right_view v)) }
+{
+    match reader.row()? {
+        row::NEGATED => {
+            reader.pass(1)?;
+            let value = placed_atom(text, reader)?;
+            Ok(RawRight::Negated(value))
+        }
+        row::CONTRARY => {
+            reader.pass(1)?;
+            let value = placed_atom(text, reader)?;
+            Ok(RawRight::Contrary(value))
+        }
+        row::CONVERTED => {
+            reader.pass(1)?;
+            let value = conversion(text, reader)?;
+            Ok(value)
+        }
+        row::CALLED => {
+            let callee = callee(text, reader)?;
+            reader.pass(1)?;
+            let args = values(alloc, text, reader)?;
+            reader.pass(1)?;
+            Ok(RawRight::Call {
+                callee,
+                args: Items::new(args),
+            })
+        }
+        row::OPERANDS => {
+            let left = placed_atom(text, reader)?;
+            let value = operation(text, reader, left)?;
+            Ok(value)
+        }
+        _ => Err(AllocError),
+    }
+}

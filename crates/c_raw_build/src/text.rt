@@ -1,0 +1,320 @@
+//! The tokens of a text, and what numbers, names and strings stand for.
+ghost use Rattle.std.specs.Prelude.{◌≡◌, ◌+◌, ◌-◌, ◌++◌, IfOk, OnOk, map, get_or, slice_get, Some};
+ghost use Rattle.c_raw.specs.Blocks.{at_view};
+ghost use Rattle.std.specs.List.{prefix_len};
+ghost use Rattle.va_base.specs.Numerals.{number_of};
+ghost use Rattle.va_base.specs.Spelling.{is_digit};
+ghost use Rattle.c_syntax.specs.grammar.Kinds.{is_no_digit};
+ghost use Rattle.c_raw_build.specs.Reading.{number_seen};
+ghost use Rattle.c_raw_build.specs.Words.{word_at, number_at, function_at as function_at_lem, real_at, field_at, field_lettered as field_lettered_lem, first_len, second_number as second_number_lem, letters_of, library_functions, library_function_at, octal as octal_lem, string_bytes as string_bytes_lem, between_quotes as between_quotes_lem, string_at, has_module_number as has_module_number_lem, first_number as first_number_lem, module_number as module_number_lem, module_numbers_of, module_numbers as module_numbers_lem};
+
+use alg_laws::{Fun1, Fun2};
+use c_raw::At;
+use c_syntax::bytes::{ByteTest, Digit, front_len};
+use c_syntax::kind_names::functions;
+use c_syntax::kinds::{kind_of, place_of};
+use c_tree::token::CToken;
+use c_tree::{CCallee, CField};
+use std::alloc::{AllocError, Global};
+use std::marker::Model;
+use va_base::numeral::decimal;
+use va_base::{Decimal, Name};
+
+/// The bytes of a text, and its tokens.
+#[derive(Debug, Drop)]
+pub(crate) struct Text<'a> {
+    bytes: &'a [u8],
+    tokens: &'a [CToken],
+}
+
+impl<'a> Model for Text<'a> {
+    ghost use Rattle.c_raw_build.specs.Words.{CText};
+
+    ghost Value = { CText };
+
+    ghost view = { λ t. record { bytes = t.bytes.now; tokens = t.tokens.now } };
+}
+
+/// The functions of C's library, in the order of their names.
+static LIBRARY: [CCallee; 21] = [
+    CCallee::Fun1(Fun1::Exp),
+    CCallee::Fun1(Fun1::Ln),
+    CCallee::Fun1(Fun1::Log),
+    CCallee::Fun1(Fun1::Sqrt),
+    CCallee::Fun1(Fun1::Sin),
+    CCallee::Fun1(Fun1::Cos),
+    CCallee::Fun1(Fun1::Tan),
+    CCallee::Fun1(Fun1::Asin),
+    CCallee::Fun1(Fun1::Acos),
+    CCallee::Fun1(Fun1::Atan),
+    CCallee::Fun1(Fun1::Sinh),
+    CCallee::Fun1(Fun1::Cosh),
+    CCallee::Fun1(Fun1::Tanh),
+    CCallee::Fun1(Fun1::Asinh),
+    CCallee::Fun1(Fun1::Acosh),
+    CCallee::Fun1(Fun1::Atanh),
+    CCallee::Fun1(Fun1::Floor),
+    CCallee::Fun1(Fun1::Ceil),
+    CCallee::Fun2(Fun2::Pow),
+    CCallee::Fun2(Fun2::Atan2),
+    CCallee::Fun2(Fun2::Hypot),
+];
+
+/// The kind of a name `fn_0_1`, and those of the first and the last names that hold a module's number.
+const MODULE_FUNCTION: u16 = 15;
+
+const LAST_NUMBERED: u16 = 32;
+
+/// Any byte but a digit.
+struct NoDigit;
+
+impl ByteTest for NoDigit {
+    ghost test = { is_no_digit };
+
+    fn passes(byte: u8) -> bool {
+        !byte.is_ascii_digit()
+    }
+}
+
+impl<'a> Text<'a> {
+    pub(crate) fn new(bytes: &'a [u8], tokens: &'a [CToken]) -> Text<'a>
+        ensures bytes { result.bytes ≡ bytes.now }
+        ensures tokens { result.tokens ≡ tokens.now }
+    {
+        Text { bytes, tokens }
+    }
+
+    /// The bytes of the token with this index. Where there is none, or it lies outside the text, which no parse tree asks for, it
+    /// answers as it does for want of memory.
+    pub(crate) fn word(&self, at: u32) -> Result<&'a [u8], AllocError>
+        ensures { IfOk result (λ word. word.now ≡ word_at self.now at) }
+    {
+        let token = self.tokens.get(at as usize).ok_or(AllocError)?;
+        let behind = self.bytes.get(token.first as usize..).ok_or(AllocError)?;
+        let word = behind.get(..token.len as usize).ok_or(AllocError)?;
+        Ok(word)
+    }
+
+    /// The number that the digits of a token give.
+    pub(crate) fn number(&self, at: u32) -> Result<u32, AllocError>
+        ensures { IfOk result (λ n. n ≡ number_at self.now at) }
+    {
+        let word = self.word(at)?;
+        number(word)
+    }
+
+    /// The second number of a name `fn_0_1`.
+    #[tactic(auto, unfolding(crate::specs::Words::function_at))]
+    pub(crate) fn function(&self, at: u32) -> Result<u32, AllocError>
+        ensures { IfOk result (λ n. n ≡ function_at_lem self.now at) }
+    {
+        let word = self.word(at)?;
+        second_number(word)
+    }
+
+    /// The exact value of a real.
+    #[tactic(auto, unfolding(crate::specs::Words::real_at))]
+    pub(crate) fn real(&self, at: u32) -> Result<Decimal, AllocError>
+        ensures { IfOk result (λ d. d ≡ real_at self.now at) }
+    {
+        let word = self.word(at)?;
+        decimal(word).ok_or(AllocError)
+    }
+
+    /// The field that a token names.
+    #[tactic(auto, unfolding(crate::specs::Words::field_at))]
+    pub(crate) fn field(&self, at: u32) -> Result<CField, AllocError>
+        ensures { IfOk result (λ f. f ≡ field_at self.now at) }
+    {
+        let word = self.word(at)?;
+        let number = number(word)?;
+        Ok(field_lettered(letters(word), number))
+    }
+
+    /// The function of C's library that a token names.
+    #[tactic(auto, unfolding(crate::specs::Words::library_function_at))]
+    pub(crate) fn library_function(&self, at: u32) -> Result<CCallee, AllocError>
+        ensures { IfOk result (λ f. f ≡ library_function_at self.now at) }
+    {
+        let word = self.word(at)?;
+        Ok(library_callee(place_of(functions(), word).unwrap_or(0)))
+    }
+
+    /// The bytes that a string stands for.
+    #[tactic(auto, unfolding(crate::specs::Words::string_at))]
+    pub(crate) fn string(&self, alloc: Global, at: u32) -> Result<Name, AllocError>
+        ensures { IfOk result (λ name. name ≡ string_at self.now at) }
+    {
+        let word = self.word(at)?;
+        let bytes = string_bytes(alloc, between_quotes(word))?;
+        Ok(Name::new(bytes))
+    }
+
+    /// The module's number in the token with this index, if it holds one.
+    fn module_number(&self, at: u32) -> Result<Option<u32>, AllocError>
+        ensures { IfOk result (λ v. number_seen at v ≡ module_numbers_of self.now at (slice_get self.now.tokens at)) }
+    {
+        let token = self.tokens.get(at as usize).ok_or(AllocError)?;
+        let word = self.word(at)?;
+        let kind = kind_of(token.kind, word);
+        if !has_module_number(kind) {
+            return Ok(None);
+        }
+        let number = module_number(kind, word)?;
+        Ok(Some(number))
+    }
+
+    /// The module's number in each C name among the tokens from `first` on, up to the one before `end`.
+    pub(crate) fn module_numbers(
+        &self,
+        alloc: Global,
+        first: u32,
+        end: u32,
+    ) -> Result<Vec<At<u32>>, AllocError>
+        ensures { IfOk result (λ v. map at_view v.items ≡ module_numbers_lem self.now first (end - first)) }
+    {
+        let mut numbers = Vec::new(alloc);
+        let mut at = first;
+        'tokens: while at < end {
+            let value = self.module_number(at)?;
+            push_number(&mut numbers, at, value)?;
+            at += 1;
+        }
+        Ok(numbers)
+    }
+}
+
+/// Adds the number that a token holds, if it holds one.
+fn push_number(numbers: &mut Vec<At<u32>>, at: u32, value: Option<u32>) -> Result<(), AllocError>
+    ensures { OnOk result (map at_view numbers.new.items ≡ map at_view numbers.old.items ++ number_seen at value) }
+{
+    if let Some(value) = value {
+        numbers.push(At { at, value })?;
+    }
+    Ok(())
+}
+
+/// The function of C's library with this place among their names.
+fn library_callee(place: usize) -> CCallee
+    ensures { result ≡ get_or library_functions place (CCallee.Fun1 Fun1.Exp) }
+{
+    if place < LIBRARY.len() {
+        LIBRARY[place]
+    } else {
+        CCallee::Fun1(Fun1::Exp)
+    }
+}
+
+/// The number that the digits among some bytes give. One that is too large, which no token holds, is answered as want of memory.
+pub(crate) fn number(bytes: &[u8]) -> Result<u32, AllocError>
+    ensures { IfOk result (λ n. n ≡ number_of bytes.now) }
+{
+    let mut number: u32 = 0;
+    for byte in bytes {
+        if byte.is_ascii_digit() {
+            let tens = number.checked_mul(10).ok_or(AllocError)?;
+            number = tens.checked_add(u32::from(*byte - b'0')).ok_or(AllocError)?;
+        }
+    }
+    Ok(number)
+}
+
+/// The second number of a name `fn_0_1`.
+fn second_number(word: &[u8]) -> Result<u32, AllocError>
+    ensures { IfOk result (λ n. n ≡ second_number_lem word.now) }
+{
+    let numbers = word.get(3..).ok_or(AllocError)?;
+    number(&numbers[front_len::<Digit>(numbers)..])
+}
+
+/// What stands before the first digit.
+fn letters(word: &[u8]) -> &[u8]
+    ensures { result.now ≡ letters_of word.now }
+{
+    &word[..front_len::<NoDigit>(word)]
+}
+
+/// A field by its letters and its number.
+fn field_lettered(letters: &[u8], number: u32) -> CField
+    ensures { result ≡ field_lettered_lem letters.now number }
+{
+    match letters {
+        b"p" => CField::Param(number),
+        b"g" => CField::Given(number),
+        b"r" => CField::Resist(number),
+        b"q" => CField::React(number),
+        b"er" => CField::EntryResist(number),
+        b"eq" => CField::EntryReact(number),
+        b"o" => CField::OpVar(number),
+        b"h" => CField::Stored(number),
+        _ => CField::Temperature,
+    }
+}
+
+/// The first number of a name `fn_0_1`.
+fn first_number(word: &[u8]) -> Result<u32, AllocError>
+    ensures { IfOk result (λ n. n ≡ first_number_lem word.now) }
+{
+    let numbers = word.get(3..).ok_or(AllocError)?;
+    number(&numbers[..front_len::<Digit>(numbers)])
+}
+
+/// Whether names of this kind hold a module's number.
+#[tactic(auto, unfolding(crate::specs::Words::has_module_number))]
+fn has_module_number(kind: u16) -> bool
+    ensures { result ≡ has_module_number_lem kind }
+{
+    MODULE_FUNCTION <= kind && kind <= LAST_NUMBERED
+}
+
+/// The module's number in a name of this kind.
+#[tactic(auto, unfolding(crate::specs::Words::module_number))]
+fn module_number(kind: u16, word: &[u8]) -> Result<u32, AllocError>
+    ensures { IfOk result (λ n. n ≡ module_number_lem kind word.now) }
+{
+    if kind == MODULE_FUNCTION {
+        first_number(word)
+    } else {
+        number(word)
+    }
+}
+
+/// What stands between the quotes of a string.
+fn between_quotes(word: &[u8]) -> &[u8]
+    ensures { result.now ≡ between_quotes_lem word.now }
+{
+    if word.len() < 2 {
+        &[]
+    } else {
+        &word[1..word.len() - 1]
+    }
+}
+
+/// The byte that three octal digits give. A larger number, which no string holds, is answered as want of memory is.
+fn octal(a: u8, b: u8, c: u8) -> Result<u8, AllocError>
+    ensures { IfOk result (λ byte. byte ≡ octal_lem a b c) }
+{
+    let digit = |byte: u8| u32::from(byte.saturating_sub(b'0'));
+    u8::try_from(64 * digit(a) + 8 * digit(b) + digit(c)).or(Err(AllocError))
+}
+
+/// The bytes that a string stands for, of which these stand between its quotes.
+fn string_bytes(alloc: Global, quoted: &[u8]) -> Result<Vec<u8>, AllocError>
+    ensures { IfOk result (λ v. v.items ≡ string_bytes_lem quoted.now) }
+{
+    let mut bytes = Vec::new(alloc);
+    let mut rest = quoted;
+    loop {
+        match rest {
+            [b'\\', a, b, c, more @ ..] => {
+                bytes.push(octal(*a, *b, *c)?)?;
+                rest = more;
+            }
+            [byte, more @ ..] => {
+                bytes.push(*byte)?;
+                rest = more;
+            }
+            [] => return Ok(bytes),
+        }
+    }
+}

@@ -1,3 +1,0 @@
-mod Decided
-mod Exists
-pub mod Readings

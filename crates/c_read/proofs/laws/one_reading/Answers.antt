@@ -1,6 +1,0 @@
-use Rattle.c_read.proofs.Exists.{some_reading}
-use Rattle.c_read.proofs.Readings.{one_reading}
-use Rattle.c_read.proofs.laws.one_reading.Goals as goal
-
-pub returns : goal.returns
-returns c = λ text. record { some = some_reading text; one = one_reading text }

@@ -1,5 +1,0 @@
-use Rattle.c_reprint.proofs.Standing.{print_keeps_form}
-use Rattle.c_reprint.proofs.laws.print_keeps_form.Goals as goal
-
-pub returns : goal.returns
-returns c = print_keeps_form

@@ -1,5 +1,0 @@
-use Rattle.c_reprint.proofs.Standing.{print_writes_raw}
-use Rattle.c_reprint.proofs.laws.print_writes_raw.Goals as goal
-
-pub returns : goal.returns
-returns c = print_writes_raw

@@ -1,2 +1,0 @@
-pub mod Reprint
-pub mod Worked

@@ -1,5 +1,0 @@
-use Rattle.c_reread.proofs.Itself.{print_spells_itself}
-use Rattle.c_reread.proofs.laws.print_spells_itself.Goals as goal
-
-pub returns : goal.returns
-returns c = print_spells_itself

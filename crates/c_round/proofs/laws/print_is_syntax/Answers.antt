@@ -1,5 +1,0 @@
-use Rattle.c_round.proofs.Printed.{print_is_syntax}
-use Rattle.c_round.proofs.laws.print_is_syntax.Goals as goal
-
-pub returns : goal.returns
-returns c = print_is_syntax

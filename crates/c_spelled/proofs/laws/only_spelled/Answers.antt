@@ -1,5 +1,0 @@
-use Rattle.c_spelled.proofs.Spelled.{only_spelled}
-use Rattle.c_spelled.proofs.laws.only_spelled.Goals as goal
-
-pub returns : goal.returns
-returns c = only_spelled

@@ -1,5 +1,0 @@
-use Rattle.c_spelled.proofs.Spelled.{spelled_exactly}
-use Rattle.c_spelled.proofs.laws.spelled_exactly.Goals as goal
-
-pub returns : goal.returns
-returns c = spelled_exactly

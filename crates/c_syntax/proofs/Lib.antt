@@ -1,0 +1,11 @@
+pub mod Longest
+pub mod Fronts
+pub mod Numbers
+pub mod Names
+pub mod Strings
+pub mod Marks
+pub mod Lists
+pub mod Facts
+pub mod Fits
+pub mod Tables
+pub mod Places

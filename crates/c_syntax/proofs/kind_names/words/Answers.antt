@@ -1,0 +1,8 @@
+use Rattle.std.proofs.Common.{refl}
+use Rattle.c_tree.specs.Words.{template}
+use Rattle.c_syntax.specs.grammar.Names.{word_names}
+use Rattle.c_syntax.proofs.kind_names.words.Goals as goal
+
+pub returns-clause-names : goal.returns-clause-names
+unfolding template word_names
+returns-clause-names c = refl

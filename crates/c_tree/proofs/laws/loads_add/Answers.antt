@@ -1,9 +1,0 @@
-use Rattle.alg_laws.specs.AtFour.{at_four}
-use Rattle.c_tree.specs.MachineLaws.{LoadsAdd}
-use Rattle.c_tree.proofs.Keeping.{adding}
-use Rattle.c_tree.proofs.laws.loads_add.Goals as goal
-
-pub returns : goal.returns
-returns g c =
-    let a = g.A.Algebra in
-    at_four a.ops a.valid a.unit a.laws LoadsAdd (λ D e v u l. adding D e v)

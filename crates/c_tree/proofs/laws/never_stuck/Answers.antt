@@ -1,9 +1,0 @@
-use Rattle.alg_laws.specs.AtFour.{at_four}
-use Rattle.c_tree.specs.NeverStuck.{NeverStuck}
-use Rattle.c_tree.proofs.Never.{never_stuck}
-use Rattle.c_tree.proofs.laws.never_stuck.Goals as goal
-
-pub returns : goal.returns
-returns g c =
-    let a = g.A.Algebra in
-    at_four a.ops a.valid a.unit a.laws NeverStuck (λ D e v u l. never_stuck D e v)

@@ -1,9 +1,0 @@
-use Rattle.alg_laws.specs.AtFour.{at_four}
-use Rattle.c_tree.specs.MachineLaws.{TurnsSuffice}
-use Rattle.c_tree.proofs.Following.{sufficing}
-use Rattle.c_tree.proofs.laws.turns_suffice.Goals as goal
-
-pub returns : goal.returns
-returns g c =
-    let a = g.A.Algebra in
-    at_four a.ops a.valid a.unit a.laws TurnsSuffice (λ D e v u l. sufficing D e v)

@@ -1,7 +1,0 @@
-use Rattle.std.proofs.Common.{ap}
-use Rattle.c_tree.specs.rules.Types.{differs}
-use Rattle.c_form.proofs.Blaming.{blames_as}
-use Rattle.c_types.proofs.atom_types.wanted.Goals as goal
-
-pub returns : goal.returns
-returns c = λ p k. blames_as c.differs.ensures (ap (λ found. differs found c.args.ty c.args.atom.at) (c.in_ok-found.ensures p k))

@@ -1,0 +1,25 @@
+use Rattle.std.proofs.Common.{sym, ◌∙◌, subst}
+use Rattle.va_build.specs.SizeFaults.{IsFaultAt}
+use Rattle.va_build.proofs.SizeFaults.{none_stands, least_stands, same_fault}
+use Rattle.va_build.proofs.SizeTrees.{parsed_derived, source_deep, source_names}
+use Rattle.va_build.proofs.size.size_fault.Goals as goal
+
+pub scan-requires : goal.scan-requires
+scan-requires c = (parsed_derived _ c.args.tree.now c.nodes.result.now c.requires.parsed c.nodes.ensures, tt)
+
+pub returns-in-None-clause-none : goal.returns-in-None-clause-none
+returns-in-None-clause-none c = λ eq s is.
+    none_stands c.args.e.now s c.in_ok-found.found.deep c.first_long-long.result c.in_ok-found.found.extra
+    (source_deep c.args.e.now s c.args.tree.now c.nodes.result.now c.in_ok-found.found.deep c.requires.parsed c.nodes.ensures is (c.in_ok-found.ensures.deep c.args.e.now))
+    c.first_long-long.ensures
+    (source_names c.args.e.now s c.args.tree.now c.nodes.result.now c.in_ok-found.found.extra c.requires.parsed c.nodes.ensures is (c.in_ok-found.ensures.extra c.args.e.now))
+    (sym c.earliest-first.ensures ∙ c.in-None.is)
+
+pub returns-in_ok-fault-in-Some-clause-fault : goal.returns-in_ok-fault-in-Some-clause-fault
+returns-in_ok-fault-in-Some-clause-fault c = λ f eq s is.
+    least_stands c.args.e.now s c.in_ok-found.found.deep c.first_long-long.result c.in_ok-found.found.extra c.in-Some.stands f
+    (source_deep c.args.e.now s c.args.tree.now c.nodes.result.now c.in_ok-found.found.deep c.requires.parsed c.nodes.ensures is (c.in_ok-found.ensures.deep c.args.e.now))
+    c.first_long-long.ensures
+    (source_names c.args.e.now s c.args.tree.now c.nodes.result.now c.in_ok-found.found.extra c.requires.parsed c.nodes.ensures is (c.in_ok-found.ensures.extra c.args.e.now))
+    (sym c.earliest-first.ensures ∙ c.in-Some.is)
+    (subst (IsFaultAt c.args.e.now c.in-Some.stands) (same_fault c.in_ok-fault-in-Some.fault f eq) c.in_ok-fault-in-Some.ensures)

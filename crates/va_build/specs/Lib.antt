@@ -1,0 +1,15 @@
+pub mod TokensAt
+pub mod Width
+pub mod SourceExpressions
+pub mod SourceStatements
+pub mod SourceItems
+pub mod SourceOf
+pub mod Reading
+pub mod StatementHeads
+pub mod AttributeLists
+pub mod Directions
+pub mod SizeDeep
+pub mod SizeRows
+pub mod SizeLinks
+pub mod SizeScan
+pub mod SizeFaults

@@ -1,0 +1,134 @@
+//! Reading disciplines (Disciplines).
+//!
+//! Each function takes the next tree of the parse tree, and its tokens with it. A row that the nonterminal does not have, which
+//! no parse tree holds, is answered as want of memory is.
+ghost use Rattle.std.specs.Prelude.{◌≡◌, [], ◌∷◌, IfOk};
+ghost use Rattle.va_base.specs.Expansion.{IsExpanded};
+ghost use Rattle.va_build.specs.Reading.{Reads, first_tree, trees};
+ghost use Rattle.va_build.specs.SourceOf.{binding as binding_lem, discipline_item as discipline_item_lem, discipline_items as discipline_items_lem, discipline_of as discipline_of_lem, module_of as module_of_lem, nature as nature_lem};
+
+use crate::natures::semicolon;
+use crate::read_expressions::argument;
+use crate::read_names::{name_at, named};
+use crate::reader::Reader;
+use std::alloc::{AllocError, Global};
+use va_base::{Expanded, Items};
+use va_grammar::row;
+use va_tree::{AttributeGroup, Discipline, DisciplineItem, Quantity};
+
+/// What is bound to a potential or a flow, or overridden of it.
+fn binding(
+    alloc: Global,
+    e: &Expanded,
+    reader: &mut Reader<'_>,
+    start: u32,
+    of: Quantity,
+) -> Result<DisciplineItem, AllocError>
+    requires { IsExpanded e.now }
+    ensures { IfOk result (λ v. Reads (binding_lem e.now start of) reader.old reader.new v) }
+{
+    match reader.row()? {
+        row::BINDING => {
+            let nature = named(alloc, e, reader)?;
+            reader.token()?;
+            Ok(DisciplineItem::Binding {
+                at: start,
+                quantity: of,
+                nature,
+            })
+        }
+        row::OVERRIDE => {
+            reader.token()?;
+            let name = named(alloc, e, reader)?;
+            reader.token()?;
+            let value = argument(alloc, e, reader)?;
+            reader.token()?;
+            Ok(DisciplineItem::Override {
+                at: start,
+                quantity: of,
+                name,
+                value,
+            })
+        }
+        _ => Err(AllocError),
+    }
+}
+
+/// An item of a discipline.
+fn discipline_item(
+    alloc: Global,
+    e: &Expanded,
+    reader: &mut Reader<'_>,
+) -> Result<DisciplineItem, AllocError>
+    requires { IsExpanded e.now }
+    ensures { IfOk result (λ v. Reads (discipline_item_lem e.now) reader.old reader.new v) }
+{
+    match reader.row()? {
+        row::POTENTIAL => {
+            let start = reader.token()?;
+            let value = binding(alloc, e, reader, start, Quantity::Potential)?;
+            Ok(value)
+        }
+        row::FLOW => {
+            let start = reader.token()?;
+            let value = binding(alloc, e, reader, start, Quantity::Flow)?;
+            Ok(value)
+        }
+        row::DOMAIN => {
+            let at = reader.token()?;
+            let name = named(alloc, e, reader)?;
+            reader.token()?;
+            Ok(DisciplineItem::Domain { at, name })
+        }
+        _ => Err(AllocError),
+    }
+}
+
+/// The items of a discipline.
+fn discipline_items(
+    alloc: Global,
+    e: &Expanded,
+    reader: &mut Reader<'_>,
+) -> Result<Vec<DisciplineItem>, AllocError>
+    requires { IsExpanded e.now }
+    ensures { IfOk result (λ v. Reads (discipline_items_lem e.now) reader.old reader.new v.items) }
+{
+    let mut list = Vec::new(alloc);
+    loop {
+        match reader.row()? {
+            row::DISCIPLINE_ITEMS => {
+                let next = discipline_item(alloc, e, reader)?;
+                list.push(next)?;
+            }
+            row::NO_DISCIPLINE_ITEMS => return Ok(list),
+            _ => return Err(AllocError),
+        }
+    }
+}
+
+/// A discipline (Disciplines), with the attributes before it.
+pub(crate) fn discipline_of(
+    alloc: Global,
+    e: &Expanded,
+    reader: &mut Reader<'_>,
+    attributes: Vec<AttributeGroup>,
+) -> Result<Discipline, AllocError>
+    requires { IsExpanded e.now }
+    ensures discipline { IfOk result (λ v. Reads (discipline_of_lem e.now attributes.items) reader.old reader.new (v ∷ [])) }
+    ensures no_nature { IfOk result (λ _. nature_lem e.now attributes.items reader.old.at (first_tree (trees reader.old)) ≡ []) }
+    ensures no_module { IfOk result (λ _. module_of_lem e.now attributes.items reader.old.at (first_tree (trees reader.old)) ≡ []) }
+{
+    reader.take(row::DISCIPLINE)?;
+    reader.token()?;
+    let at = reader.token()?;
+    let name = name_at(alloc, e, at)?;
+    semicolon(reader)?;
+    let items = discipline_items(alloc, e, reader)?;
+    reader.token()?;
+    Ok(Discipline {
+        attributes: Items::new(attributes),
+        at,
+        name,
+        items: Items::new(items),
+    })
+}

@@ -1,0 +1,121 @@
+//! Reading analog blocks and functions (Analog procedural block, User-defined analog functions).
+//!
+//! Each function takes the next tree of the parse tree, and its tokens with it. A row that the nonterminal does not have, which
+//! no parse tree holds, is answered as want of memory is.
+ghost use Rattle.std.specs.Prelude.{[], ◌∷◌, IfOk};
+ghost use Rattle.va_base.specs.Expansion.{IsExpanded};
+ghost use Rattle.va_build.specs.Reading.{Reads};
+ghost use Rattle.va_build.specs.SourceItems.{analog as analog_lem, function_item as function_item_lem, function_items as function_items_lem, item_body as item_body_lem};
+
+use crate::name_lists::names_behind;
+use crate::parameters::optional_type;
+use crate::read_names::named;
+use crate::read_statements::one_statement;
+use crate::reader::Reader;
+use std::alloc::{AllocError, Global};
+use va_base::{Expanded, Items};
+use va_grammar::row;
+use va_tree::{FunctionItem, ItemBody, Ty};
+
+/// Inputs or variables of a function, behind the word that begins their declaration.
+fn function_names(
+    alloc: Global,
+    e: &Expanded,
+    reader: &mut Reader<'_>,
+) -> Result<FunctionItem, AllocError>
+    requires { IsExpanded e.now }
+    ensures { IfOk result (λ v. Reads (function_item_lem e.now) reader.old reader.new (v ∷ [])) }
+{
+    let row = reader.row()?;
+    let at = reader.token()?;
+    let first = named(alloc, e, reader)?;
+    let list = names_behind(alloc, e, reader, first)?;
+    reader.token()?;
+    let names = Items::new(list);
+    match row {
+        row::FUNCTION_INPUT => Ok(FunctionItem::Input { at, names }),
+        row::FUNCTION_REAL => Ok(FunctionItem::Variables {
+            at,
+            ty: Ty::Real,
+            names,
+        }),
+        row::FUNCTION_INTEGER => Ok(FunctionItem::Variables {
+            at,
+            ty: Ty::Integer,
+            names,
+        }),
+        _ => Err(AllocError),
+    }
+}
+
+/// The declarations of a function.
+fn function_items(
+    alloc: Global,
+    e: &Expanded,
+    reader: &mut Reader<'_>,
+) -> Result<Vec<FunctionItem>, AllocError>
+    requires { IsExpanded e.now }
+    ensures { IfOk result (λ v. Reads (function_items_lem e.now) reader.old reader.new v.items) }
+{
+    let mut list = Vec::new(alloc);
+    loop {
+        match reader.row()? {
+            row::FUNCTION_ITEMS => {
+                let next = function_names(alloc, e, reader)?;
+                list.push(next)?;
+            }
+            row::NO_FUNCTION_ITEMS => return Ok(list),
+            _ => return Err(AllocError),
+        }
+    }
+}
+
+/// A function (User-defined analog functions), or an analog block, behind the word `analog`.
+fn analog(
+    alloc: Global,
+    e: &Expanded,
+    reader: &mut Reader<'_>,
+    start: u32,
+) -> Result<ItemBody, AllocError>
+    requires { IsExpanded e.now }
+    ensures { IfOk result (λ v. Reads (analog_lem e.now start) reader.old reader.new v) }
+{
+    match reader.row()? {
+        row::FUNCTION => {
+            reader.token()?;
+            let ty = optional_type(reader)?;
+            let name = named(alloc, e, reader)?;
+            reader.token()?;
+            let list = function_items(alloc, e, reader)?;
+            let body = one_statement(alloc, e, reader)?;
+            reader.token()?;
+            Ok(ItemBody::Function {
+                at: start,
+                ty,
+                name,
+                items: Items::new(list),
+                body,
+            })
+        }
+        row::ANALOG_STATEMENT => {
+            let body = one_statement(alloc, e, reader)?;
+            Ok(ItemBody::Analog { at: start, body })
+        }
+        _ => Err(AllocError),
+    }
+}
+
+/// An analog block or function.
+pub(crate) fn analog_item(
+    alloc: Global,
+    e: &Expanded,
+    reader: &mut Reader<'_>,
+) -> Result<ItemBody, AllocError>
+    requires { IsExpanded e.now }
+    ensures { IfOk result (λ v. Reads (item_body_lem e.now) reader.old reader.new (v ∷ [])) }
+{
+    reader.take(row::ANALOG)?;
+    let start = reader.token()?;
+    let body = analog(alloc, e, reader, start)?;
+    Ok(body)
+}

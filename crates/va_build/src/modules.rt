@@ -1,0 +1,79 @@
+//! Reading modules.
+//!
+//! Each function takes the next tree of the parse tree, and its tokens with it. A row that the nonterminal does not have, which
+//! no parse tree holds, is answered as want of memory is.
+ghost use Rattle.std.specs.Prelude.{◌≡◌, [], ◌∷◌, IfOk};
+ghost use Rattle.va_base.specs.Expansion.{IsExpanded};
+ghost use Rattle.va_build.specs.Reading.{Reads, first_tree, trees};
+ghost use Rattle.va_build.specs.SourceOf.{discipline_of as discipline_of_lem, item as item_lem, items as items_lem, module_of as module_of_lem, nature as nature_lem};
+
+use crate::attributes::attribute_groups;
+use crate::item_bodies::item_body;
+use crate::name_lists::ports;
+use crate::read_names::name_at;
+use crate::reader::Reader;
+use std::alloc::{AllocError, Global};
+use va_base::{Expanded, Items};
+use va_grammar::row;
+use va_tree::{AttributeGroup, Item, Module};
+
+/// An item of a module, with the attributes before it.
+fn item(alloc: Global, e: &Expanded, reader: &mut Reader<'_>) -> Result<Item, AllocError>
+    requires { IsExpanded e.now }
+    ensures { IfOk result (λ v. Reads (item_lem e.now) reader.old reader.new (v ∷ [])) }
+{
+    reader.take(row::ITEM)?;
+    let attributes = attribute_groups(alloc, e, reader)?;
+    let body = item_body(alloc, e, reader)?;
+    Ok(Item {
+        attributes: Items::new(attributes),
+        body,
+    })
+}
+
+/// The items of a module.
+fn items(alloc: Global, e: &Expanded, reader: &mut Reader<'_>) -> Result<Vec<Item>, AllocError>
+    requires { IsExpanded e.now }
+    ensures { IfOk result (λ v. Reads (items_lem e.now) reader.old reader.new v.items) }
+{
+    let mut list = Vec::new(alloc);
+    loop {
+        match reader.row()? {
+            row::ITEMS => {
+                let next = item(alloc, e, reader)?;
+                list.push(next)?;
+            }
+            row::NO_ITEMS => return Ok(list),
+            _ => return Err(AllocError),
+        }
+    }
+}
+
+/// A module, with the attributes before it.
+pub(crate) fn module_of(
+    alloc: Global,
+    e: &Expanded,
+    reader: &mut Reader<'_>,
+    attributes: Vec<AttributeGroup>,
+) -> Result<Module, AllocError>
+    requires { IsExpanded e.now }
+    ensures module { IfOk result (λ v. Reads (module_of_lem e.now attributes.items) reader.old reader.new (v ∷ [])) }
+    ensures no_nature { IfOk result (λ _. nature_lem e.now attributes.items reader.old.at (first_tree (trees reader.old)) ≡ []) }
+    ensures no_discipline { IfOk result (λ _. discipline_of_lem e.now attributes.items reader.old.at (first_tree (trees reader.old)) ≡ []) }
+{
+    reader.take(row::MODULE)?;
+    reader.token()?;
+    let at = reader.token()?;
+    let name = name_at(alloc, e, at)?;
+    let ports = ports(alloc, e, reader)?;
+    reader.token()?;
+    let items = items(alloc, e, reader)?;
+    reader.token()?;
+    Ok(Module {
+        attributes: Items::new(attributes),
+        at,
+        name,
+        ports: Items::new(ports),
+        items: Items::new(items),
+    })
+}

@@ -1,0 +1,81 @@
+//! Reading lists of names.
+//!
+//! Each function takes the next tree of the parse tree, and its tokens with it. A row that the nonterminal does not have, which
+//! no parse tree holds, is answered as want of memory is.
+ghost use Rattle.std.specs.Prelude.{◌∷◌, IfOk};
+ghost use Rattle.va_base.specs.Expansion.{IsExpanded};
+ghost use Rattle.va_build.specs.Reading.{Reads};
+ghost use Rattle.va_build.specs.SourceItems.{more_names as more_names_lem};
+ghost use Rattle.va_build.specs.SourceOf.{port_list as port_list_lem, ports as ports_lem};
+
+use crate::read_names::named;
+use crate::reader::Reader;
+use std::alloc::{AllocError, Global};
+use va_base::Expanded;
+use va_grammar::row;
+use va_tree::NameAt;
+
+/// A name, and those behind it.
+pub(crate) fn names_behind(
+    alloc: Global,
+    e: &Expanded,
+    reader: &mut Reader<'_>,
+    first: NameAt,
+) -> Result<Vec<NameAt>, AllocError>
+    requires { IsExpanded e.now }
+    ensures { IfOk result (λ v. Reads (λ at t. first ∷ more_names_lem e.now at t) reader.old reader.new v.items) }
+{
+    let mut list = vec![in alloc; first]?;
+    loop {
+        match reader.row()? {
+            row::MORE_NAMES => {
+                reader.token()?;
+                let next = named(alloc, e, reader)?;
+                list.push(next)?;
+            }
+            row::NO_MORE_NAMES => return Ok(list),
+            _ => return Err(AllocError),
+        }
+    }
+}
+
+/// The names of ports, if there are any.
+fn port_list(
+    alloc: Global,
+    e: &Expanded,
+    reader: &mut Reader<'_>,
+) -> Result<Vec<NameAt>, AllocError>
+    requires { IsExpanded e.now }
+    ensures { IfOk result (λ v. Reads (port_list_lem e.now) reader.old reader.new v.items) }
+{
+    match reader.row()? {
+        row::PORT_LIST => {
+            let first = named(alloc, e, reader)?;
+            let list = names_behind(alloc, e, reader, first)?;
+            Ok(list)
+        }
+        row::NO_PORT_LIST => Ok(Vec::new(alloc)),
+        _ => Err(AllocError),
+    }
+}
+
+/// The ports of a module, if it lists any.
+pub(crate) fn ports(
+    alloc: Global,
+    e: &Expanded,
+    reader: &mut Reader<'_>,
+) -> Result<Vec<NameAt>, AllocError>
+    requires { IsExpanded e.now }
+    ensures { IfOk result (λ v. Reads (ports_lem e.now) reader.old reader.new v.items) }
+{
+    match reader.row()? {
+        row::PORTS => {
+            reader.token()?;
+            let list = port_list(alloc, e, reader)?;
+            reader.token()?;
+            Ok(list)
+        }
+        row::NO_PORTS => Ok(Vec::new(alloc)),
+        _ => Err(AllocError),
+    }
+}

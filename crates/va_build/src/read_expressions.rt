@@ -1,0 +1,325 @@
+//! Reading expressions.
+//!
+//! Each function takes the next tree of the parse tree, and its tokens with it. A row that the nonterminal does not have, which
+//! no parse tree holds, is answered as want of memory is.
+ghost use Rattle.std.specs.Prelude.{◌≡◌, ◌∷◌, IfOk};
+ghost use Rattle.va_build.specs.TokensAt.{name_at as name_at_lem};
+ghost use Rattle.va_base.specs.Expansion.{IsExpanded};
+ghost use Rattle.va_build.specs.Reading.{Reads};
+ghost use Rattle.va_build.specs.SourceExpressions.{argument as argument_lem, arguments as arguments_lem, more_arguments as more_arguments_lem, expression as expression_lem, choice as choice_lem, operand as operand_lem, chain as chain_lem, primary as primary_lem, called as called_lem, bare as bare_lem};
+
+use crate::operators::{OperandRow, TailRow, operand_row, tail_row};
+use crate::read_names::{literal, name_at, named};
+use crate::reader::Reader;
+use sqlite_items::{Boxed, Items as Children};
+use std::alloc::{AllocError, Global};
+use va_base::Expanded;
+use va_grammar::row;
+use va_tree::{Arg, BinaryOp, Callee, Expr, UnaryOp};
+
+/// An expression (Expressions).
+#[cycle(expression)]
+pub(crate) fn expression(
+    alloc: Global,
+    e: &Expanded,
+    reader: &mut Reader<'_>,
+) -> Result<Expr, AllocError>
+    requires { IsExpanded e.now }
+    ensures { IfOk result (λ v. Reads (expression_lem e.now) reader.old reader.new v) }
+{
+    reader.take(row::EXPRESSION)?;
+    let first = reader.at();
+    let test = operand(alloc, e, reader)?;
+    let value = choice(alloc, e, reader, first, test)?;
+    Ok(value)
+}
+
+/// What `?` and `:` choose behind a test, or the test itself where they do not follow it.
+#[cycle(expression)]
+fn choice(
+    alloc: Global,
+    e: &Expanded,
+    reader: &mut Reader<'_>,
+    first: u32,
+    test: Expr,
+) -> Result<Expr, AllocError>
+    requires { IsExpanded e.now }
+    ensures { IfOk result (λ v. Reads (choice_lem e.now first test) reader.old reader.new v) }
+{
+    match reader.row()? {
+        row::CHOICE => {
+            reader.token()?;
+            let yes = expression(alloc, e, reader)?;
+            reader.token()?;
+            let no = expression(alloc, e, reader)?;
+            let value = choose(alloc, first, test, yes, no)?;
+            Ok(value)
+        }
+        row::NO_CHOICE => Ok(test),
+        _ => Err(AllocError),
+    }
+}
+
+/// Operands of one precedence and the operators between them, a sign and its operand, or an operand without signs.
+#[cycle(expression)]
+fn operand(alloc: Global, e: &Expanded, reader: &mut Reader<'_>) -> Result<Expr, AllocError>
+    requires { IsExpanded e.now }
+    ensures { IfOk result (λ v. Reads (operand_lem e.now) reader.old reader.new v) }
+{
+    let row = reader.row()?;
+    let at = reader.at();
+    match operand_row(row) {
+        Some(OperandRow::Operands) => {
+            let first = operand(alloc, e, reader)?;
+            // The common case, in which `chain` would but hand the operand on, which costs a copy at each precedence.
+            if reader.take_end()? {
+                return Ok(first);
+            }
+            let value = chain(alloc, e, reader, at, first)?;
+            Ok(value)
+        }
+        Some(OperandRow::Sign(op)) => {
+            reader.token()?;
+            let signed = operand(alloc, e, reader)?;
+            let value = unary(alloc, at, op, signed)?;
+            Ok(value)
+        }
+        Some(OperandRow::Unsigned) => {
+            let value = primary(alloc, e, reader)?;
+            Ok(value)
+        }
+        None => Err(AllocError),
+    }
+}
+
+/// What operators and their right operands make of a first operand, which begins at `first`: the next one takes in all before
+/// it, so that they associate to the left.
+#[cycle(expression)]
+fn chain(
+    alloc: Global,
+    e: &Expanded,
+    reader: &mut Reader<'_>,
+    first: u32,
+    left: Expr,
+) -> Result<Expr, AllocError>
+    requires { IsExpanded e.now }
+    ensures { IfOk result (λ v. Reads (chain_lem e.now first left) reader.old reader.new v) }
+{
+    let mut value = left;
+    loop {
+        let row = reader.row()?;
+        match tail_row(row) {
+            Some(TailRow::Operator(op)) => {
+                reader.token()?;
+                let right = operand(alloc, e, reader)?;
+                value = binary(alloc, first, value, op, right)?;
+            }
+            Some(TailRow::End) => return Ok(value),
+            None => return Err(AllocError),
+        }
+    }
+}
+
+/// A numeral, `inf`, an expression in parentheses, or a name and the arguments behind it.
+#[cycle(expression)]
+fn primary(alloc: Global, e: &Expanded, reader: &mut Reader<'_>) -> Result<Expr, AllocError>
+    requires { IsExpanded e.now }
+    ensures { IfOk result (λ v. Reads (primary_lem e.now) reader.old reader.new v) }
+{
+    let row = reader.row()?;
+    let at = reader.token()?;
+    match row {
+        row::NUMBER => Ok(literal(e, at)),
+        row::INF => Ok(Expr::Inf { at }),
+        row::GROUP => {
+            let inner = expression(alloc, e, reader)?;
+            reader.token()?;
+            let value = group(alloc, at, inner)?;
+            Ok(value)
+        }
+        row::WORD => {
+            let value = called(alloc, e, reader, at, Callee::Function)?;
+            Ok(value)
+        }
+        row::SYSTEM => {
+            let value = called(alloc, e, reader, at, Callee::System)?;
+            Ok(value)
+        }
+        _ => Err(AllocError),
+    }
+}
+
+/// The call of a name, or the name alone where no parentheses follow it.
+#[cycle(expression)]
+fn called(
+    alloc: Global,
+    e: &Expanded,
+    reader: &mut Reader<'_>,
+    name: u32,
+    who: Callee,
+) -> Result<Expr, AllocError>
+    requires { IsExpanded e.now }
+    ensures { IfOk result (λ v. Reads (called_lem e.now name who) reader.old reader.new v) }
+{
+    match reader.row()? {
+        row::CALL => {
+            reader.token()?;
+            let args = arguments(alloc, e, reader)?;
+            reader.token()?;
+            let value = call(alloc, e, name, who, args)?;
+            Ok(value)
+        }
+        row::NO_CALL => {
+            let value = bare(alloc, e, name, who)?;
+            Ok(value)
+        }
+        _ => Err(AllocError),
+    }
+}
+
+/// The arguments of a call or a task.
+#[cycle(expression)]
+pub(crate) fn arguments(
+    alloc: Global,
+    e: &Expanded,
+    reader: &mut Reader<'_>,
+) -> Result<Vec<Arg>, AllocError>
+    requires { IsExpanded e.now }
+    ensures { IfOk result (λ v. Reads (arguments_lem e.now) reader.old reader.new v.items) }
+{
+    match reader.row()? {
+        row::ARGUMENTS => {
+            let first = argument(alloc, e, reader)?;
+            let args = more_arguments(alloc, e, reader, first)?;
+            Ok(args)
+        }
+        row::NO_ARGUMENTS => Ok(Vec::new(alloc)),
+        _ => Err(AllocError),
+    }
+}
+
+/// The arguments behind the first.
+#[cycle(expression)]
+fn more_arguments(
+    alloc: Global,
+    e: &Expanded,
+    reader: &mut Reader<'_>,
+    first: Arg,
+) -> Result<Vec<Arg>, AllocError>
+    requires { IsExpanded e.now }
+    ensures { IfOk result (λ v. Reads (λ at t. first ∷ more_arguments_lem e.now at t) reader.old reader.new v.items) }
+{
+    let mut args = vec![in alloc; first]?;
+    loop {
+        match reader.row()? {
+            row::MORE_ARGUMENTS => {
+                reader.token()?;
+                let next = argument(alloc, e, reader)?;
+                args.push(next)?;
+            }
+            row::NO_MORE_ARGUMENTS => return Ok(args),
+            _ => return Err(AllocError),
+        }
+    }
+}
+
+/// An argument: a string or an expression.
+#[cycle(expression)]
+pub(crate) fn argument(
+    alloc: Global,
+    e: &Expanded,
+    reader: &mut Reader<'_>,
+) -> Result<Arg, AllocError>
+    requires { IsExpanded e.now }
+    ensures { IfOk result (λ v. Reads (argument_lem e.now) reader.old reader.new v) }
+{
+    match reader.row()? {
+        row::TEXT_ARGUMENT => {
+            let text = named(alloc, e, reader)?;
+            Ok(Arg::Text(text))
+        }
+        row::ARGUMENT => {
+            let value = expression(alloc, e, reader)?;
+            Ok(Arg::Expr(value))
+        }
+        _ => Err(AllocError),
+    }
+}
+
+fn choose(alloc: Global, at: u32, test: Expr, yes: Expr, no: Expr) -> Result<Expr, AllocError>
+    ensures { IfOk result (λ v. v ≡ Expr.Choose at test yes no) }
+{
+    Ok(Expr::Choose {
+        at,
+        test: Boxed::new(alloc, test)?,
+        yes: Boxed::new(alloc, yes)?,
+        no: Boxed::new(alloc, no)?,
+    })
+}
+
+fn unary(alloc: Global, at: u32, op: UnaryOp, operand: Expr) -> Result<Expr, AllocError>
+    ensures { IfOk result (λ v. v ≡ Expr.Unary at op operand) }
+{
+    Ok(Expr::Unary {
+        at,
+        op,
+        operand: Boxed::new(alloc, operand)?,
+    })
+}
+
+fn binary(alloc: Global, at: u32, left: Expr, op: BinaryOp, right: Expr) -> Result<Expr, AllocError>
+    ensures { IfOk result (λ v. v ≡ Expr.Binary at left op right) }
+{
+    Ok(Expr::Binary {
+        at,
+        left: Boxed::new(alloc, left)?,
+        op,
+        right: Boxed::new(alloc, right)?,
+    })
+}
+
+fn group(alloc: Global, at: u32, inner: Expr) -> Result<Expr, AllocError>
+    ensures { IfOk result (λ v. v ≡ Expr.Group at inner) }
+{
+    Ok(Expr::Group {
+        at,
+        inner: Boxed::new(alloc, inner)?,
+    })
+}
+
+/// A name with arguments in parentheses.
+fn call(
+    alloc: Global,
+    e: &Expanded,
+    at: u32,
+    callee: Callee,
+    args: Vec<Arg>,
+) -> Result<Expr, AllocError>
+    requires { IsExpanded e.now }
+    ensures { IfOk result (λ v. v ≡ Expr.Call at callee (name_at_lem e.now at) args.items) }
+{
+    let name = name_at(alloc, e, at)?;
+    Ok(Expr::Call {
+        at,
+        callee,
+        name,
+        args: Children::from_vec(args),
+    })
+}
+
+/// A name without parentheses behind it.
+fn bare(alloc: Global, e: &Expanded, at: u32, callee: Callee) -> Result<Expr, AllocError>
+    requires { IsExpanded e.now }
+    ensures { IfOk result (λ v. v ≡ bare_lem e.now at callee) }
+{
+    let name = name_at(alloc, e, at)?;
+    match callee {
+        Callee::Function => Ok(Expr::Name { at, name }),
+        Callee::System => Ok(Expr::Call {
+            at,
+            callee,
+            name,
+            args: Children::from_vec(Vec::new(alloc)),
+        }),
+    }
+}

@@ -1,0 +1,272 @@
+//! Reading statements.
+//!
+//! Each function takes the next tree of the parse tree, and its tokens with it. A statement that is read goes to the end of a
+//! list of those that are done; where it holds others, they are taken from there. A row that the nonterminal does not have,
+//! which no parse tree holds, is answered as want of memory is.
+ghost use Rattle.std.specs.Prelude.{◌≡◌, [], ◌∷◌, ◌++◌, IfOk, OnOk, None, Some};
+ghost use Rattle.va_base.specs.Expansion.{IsExpanded};
+ghost use Rattle.va_build.specs.Reading.{Reads, first_tree, trees};
+ghost use Rattle.std.specs.Option.{is_some};
+ghost use Rattle.va_build.specs.StatementHeads.{else_statements};
+ghost use Rattle.va_build.specs.SourceStatements.{statement as statement_lem, statements as statements_lem, else_branch as else_branch_lem, case_items as case_items_lem, case_item as case_item_lem, case_defaults as case_defaults_lem, case_default as case_default_lem};
+
+use crate::done::{
+    close_block, close_case, close_default, close_if, close_if_else, close_item, close_turn, last,
+};
+use crate::read_expressions::expression;
+use crate::reader::Reader;
+use crate::statement_heads::{begins_turn, case_head, if_head, read_turn};
+use crate::statement_parts::{colon, declarations, label, simple, values_behind};
+use std::alloc::{AllocError, Global};
+use va_base::Expanded;
+use va_grammar::row;
+use va_tree::{CaseDefault, CaseItem, Stmt};
+
+/// A statement.
+#[cycle(statement)]
+pub(crate) fn statement(
+    alloc: Global,
+    e: &Expanded,
+    reader: &mut Reader<'_>,
+    done: &mut Vec<Stmt>,
+) -> Result<(), AllocError>
+    requires { IsExpanded e.now }
+    ensures { OnOk result (Reads (λ at t. done.old.items ++ statement_lem e.now at t ∷ []) reader.old reader.new done.new.items) }
+{
+    match reader.next_row() {
+        Some(row::BLOCK) => block(alloc, e, reader, done),
+        Some(row::IF) => if_statement(alloc, e, reader, done),
+        Some(row::CASE) => case_statement(alloc, e, reader, done),
+        _ => other(alloc, e, reader, done),
+    }
+}
+
+/// A statement with one statement in it, or none.
+#[cycle(statement)]
+fn other(
+    alloc: Global,
+    e: &Expanded,
+    reader: &mut Reader<'_>,
+    done: &mut Vec<Stmt>,
+) -> Result<(), AllocError>
+    requires { IsExpanded e.now }
+    ensures { OnOk result (Reads (λ at t. done.old.items ++ statement_lem e.now at t ∷ []) reader.old reader.new done.new.items) }
+{
+    if !begins_turn(reader) {
+        return simple_done(alloc, e, reader, done);
+    }
+    let turn = read_turn(alloc, e, reader)?;
+    statement(alloc, e, reader, done)?;
+    close_turn(alloc, done, turn)?;
+    Ok(())
+}
+
+/// A statement that holds no other.
+fn simple_done(
+    alloc: Global,
+    e: &Expanded,
+    reader: &mut Reader<'_>,
+    done: &mut Vec<Stmt>,
+) -> Result<(), AllocError>
+    requires { IsExpanded e.now }
+    ensures { OnOk result (Reads (λ at t. done.old.items ++ statement_lem e.now at t ∷ []) reader.old reader.new done.new.items) }
+{
+    let value = simple(alloc, e, reader)?;
+    done.push(value)?;
+    Ok(())
+}
+
+/// A block (Block statements).
+#[cycle(statement)]
+fn block(
+    alloc: Global,
+    e: &Expanded,
+    reader: &mut Reader<'_>,
+    done: &mut Vec<Stmt>,
+) -> Result<(), AllocError>
+    requires { IsExpanded e.now }
+    ensures { OnOk result (Reads (λ at t. done.old.items ++ statement_lem e.now at t ∷ []) reader.old reader.new done.new.items) }
+{
+    reader.take(row::BLOCK)?;
+    let at = reader.token()?;
+    let label = label(alloc, e, reader)?;
+    let list = declarations(alloc, e, reader)?;
+    let start = done.len();
+    statements(alloc, e, reader, done)?;
+    reader.token()?;
+    close_block(alloc, done, start, at, label, list)?;
+    Ok(())
+}
+
+/// The statements of a block.
+#[cycle(statement)]
+fn statements(
+    alloc: Global,
+    e: &Expanded,
+    reader: &mut Reader<'_>,
+    done: &mut Vec<Stmt>,
+) -> Result<(), AllocError>
+    requires { IsExpanded e.now }
+    ensures { OnOk result (Reads (λ at t. done.old.items ++ statements_lem e.now at t) reader.old reader.new done.new.items) }
+{
+    loop {
+        match reader.row()? {
+            row::STATEMENTS => statement(alloc, e, reader, done)?,
+            row::NO_STATEMENTS => return Ok(()),
+            _ => return Err(AllocError),
+        }
+    }
+}
+
+/// An `if` (Conditional statements).
+#[cycle(statement)]
+fn if_statement(
+    alloc: Global,
+    e: &Expanded,
+    reader: &mut Reader<'_>,
+    done: &mut Vec<Stmt>,
+) -> Result<(), AllocError>
+    requires { IsExpanded e.now }
+    ensures { OnOk result (Reads (λ at t. done.old.items ++ statement_lem e.now at t ∷ []) reader.old reader.new done.new.items) }
+{
+    let test = if_head(alloc, e, reader)?;
+    statement(alloc, e, reader, done)?;
+    let with_else = else_branch(alloc, e, reader, done)?;
+    if with_else {
+        close_if_else(alloc, done, test)?;
+        return Ok(());
+    }
+    close_if(alloc, done, test)?;
+    Ok(())
+}
+
+/// The statement of an `else`, if there is one. Answers whether there is.
+#[cycle(statement)]
+fn else_branch(
+    alloc: Global,
+    e: &Expanded,
+    reader: &mut Reader<'_>,
+    done: &mut Vec<Stmt>,
+) -> Result<bool, AllocError>
+    requires { IsExpanded e.now }
+    ensures read { OnOk result (Reads (λ at t. done.old.items ++ else_statements e.now at t) reader.old reader.new done.new.items) }
+    ensures found { IfOk result (λ b. b ≡ is_some (else_branch_lem e.now reader.old.at (first_tree (trees reader.old)))) }
+{
+    match reader.row()? {
+        row::ELSE => {
+            reader.token()?;
+            statement(alloc, e, reader, done)?;
+            Ok(true)
+        }
+        row::NO_ELSE => Ok(false),
+        _ => Err(AllocError),
+    }
+}
+
+/// A `case` (Case statements).
+#[cycle(statement)]
+fn case_statement(
+    alloc: Global,
+    e: &Expanded,
+    reader: &mut Reader<'_>,
+    done: &mut Vec<Stmt>,
+) -> Result<(), AllocError>
+    requires { IsExpanded e.now }
+    ensures { OnOk result (Reads (λ at t. done.old.items ++ statement_lem e.now at t ∷ []) reader.old reader.new done.new.items) }
+{
+    let selector = case_head(alloc, e, reader)?;
+    let mut items = Vec::new(alloc);
+    let mut defaults = Vec::new(alloc);
+    case_parts(alloc, e, reader, done, &mut items, &mut defaults)?;
+    reader.token()?;
+    close_case(done, selector, items, defaults)?;
+    Ok(())
+}
+
+/// The items of a `case`, and apart from them its defaults.
+#[cycle(statement)]
+fn case_parts(
+    alloc: Global,
+    e: &Expanded,
+    reader: &mut Reader<'_>,
+    done: &mut Vec<Stmt>,
+    items: &mut Vec<CaseItem>,
+    defaults: &mut Vec<CaseDefault>,
+) -> Result<(), AllocError>
+    requires { IsExpanded e.now }
+    ensures items { OnOk result (Reads (λ at t. items.old.items ++ case_items_lem e.now at t) reader.old reader.new items.new.items) }
+    ensures defaults { OnOk result (Reads (λ at t. defaults.old.items ++ case_defaults_lem e.now at t) reader.old reader.new defaults.new.items) }
+    ensures done { OnOk result (done.new.items ≡ done.old.items) }
+{
+    loop {
+        match reader.row()? {
+            row::CASE_ITEMS => match reader.next_row() {
+                Some(row::DEFAULT) => case_default(alloc, e, reader, done, defaults)?,
+                _ => case_item(alloc, e, reader, done, items)?,
+            },
+            row::NO_CASE_ITEMS => return Ok(()),
+            _ => return Err(AllocError),
+        }
+    }
+}
+
+/// An item of a `case` with its values.
+#[cycle(statement)]
+fn case_item(
+    alloc: Global,
+    e: &Expanded,
+    reader: &mut Reader<'_>,
+    done: &mut Vec<Stmt>,
+    items: &mut Vec<CaseItem>,
+) -> Result<(), AllocError>
+    requires { IsExpanded e.now }
+    ensures item { OnOk result (Reads (λ at t. items.old.items ++ case_item_lem e.now at t) reader.old reader.new items.new.items) }
+    ensures only { OnOk result (case_default_lem e.now reader.old.at (first_tree (trees reader.old)) ≡ []) }
+    ensures done { OnOk result (done.new.items ≡ done.old.items) }
+{
+    reader.take(row::CASE_ITEM)?;
+    let at = reader.at();
+    let first = expression(alloc, e, reader)?;
+    let values = values_behind(alloc, e, reader, first)?;
+    reader.token()?;
+    statement(alloc, e, reader, done)?;
+    close_item(done, items, at, values)?;
+    Ok(())
+}
+
+/// A default of a `case`.
+#[cycle(statement)]
+fn case_default(
+    alloc: Global,
+    e: &Expanded,
+    reader: &mut Reader<'_>,
+    done: &mut Vec<Stmt>,
+    defaults: &mut Vec<CaseDefault>,
+) -> Result<(), AllocError>
+    requires { IsExpanded e.now }
+    ensures item { OnOk result (Reads (λ at t. defaults.old.items ++ case_default_lem e.now at t) reader.old reader.new defaults.new.items) }
+    ensures only { OnOk result (case_item_lem e.now reader.old.at (first_tree (trees reader.old)) ≡ []) }
+    ensures done { OnOk result (done.new.items ≡ done.old.items) }
+{
+    reader.take(row::DEFAULT)?;
+    let at = reader.token()?;
+    colon(reader)?;
+    statement(alloc, e, reader, done)?;
+    close_default(done, defaults, at)?;
+    Ok(())
+}
+
+/// A statement by itself.
+pub(crate) fn one_statement(
+    alloc: Global,
+    e: &Expanded,
+    reader: &mut Reader<'_>,
+) -> Result<Stmt, AllocError>
+    requires { IsExpanded e.now }
+    ensures { IfOk result (λ v. Reads (statement_lem e.now) reader.old reader.new v) }
+{
+    let mut done = Vec::new(alloc);
+    statement(alloc, e, reader, &mut done)?;
+    let value = last(&mut done)?;
+    Ok(value)
+}

@@ -1,0 +1,396 @@
+//! Reading what statements are made of, but for the statements in them.
+//!
+//! Each function takes the next tree of the parse tree, and its tokens with it. A row that the nonterminal does not have, which
+//! no parse tree holds, is answered as want of memory is.
+ghost use Rattle.std.specs.Prelude.{◌≡◌, [], ◌∷◌, IfOk};
+ghost use Rattle.va_base.specs.Expansion.{IsExpanded};
+ghost use Rattle.va_build.specs.Reading.{Reads, first_tree, trees};
+ghost use Rattle.va_build.specs.SourceStatements.{second_node as second_node_lem, initialiser as initialiser_lem, variable as variable_lem, more_variables, variables as variables_lem, label as label_lem, declaration as declaration_lem, declarations as declarations_lem, more_values as more_values_lem, more_analyses as more_analyses_lem, analyses as analyses_lem, event_kind, event_analyses, named_statement as named_statement_lem, task_arguments as task_arguments_lem, statement as statement_lem};
+
+use crate::read_expressions::{arguments, expression};
+use crate::read_names::{name_at, named};
+use crate::reader::Reader;
+use std::alloc::{AllocError, Global};
+use va_base::{Expanded, Items};
+use va_grammar::row;
+use va_tree::{Arg, Declaration, EventKind, Expr, NameAt, Stmt, Ty, Variable};
+
+/// The second name between parentheses, if there is one.
+pub(crate) fn second_node(
+    alloc: Global,
+    e: &Expanded,
+    reader: &mut Reader<'_>,
+) -> Result<Option<NameAt>, AllocError>
+    requires { IsExpanded e.now }
+    ensures { IfOk result (λ v. Reads (second_node_lem e.now) reader.old reader.new v) }
+{
+    match reader.row()? {
+        row::SECOND_NODE => {
+            reader.token()?;
+            let name = named(alloc, e, reader)?;
+            Ok(Some(name))
+        }
+        row::NO_SECOND_NODE => Ok(None),
+        _ => Err(AllocError),
+    }
+}
+
+/// The first value of a variable, if it is given.
+fn initialiser(
+    alloc: Global,
+    e: &Expanded,
+    reader: &mut Reader<'_>,
+) -> Result<Option<Expr>, AllocError>
+    requires { IsExpanded e.now }
+    ensures { IfOk result (λ v. Reads (initialiser_lem e.now) reader.old reader.new v) }
+{
+    match reader.row()? {
+        row::INITIALISER => {
+            reader.token()?;
+            let value = expression(alloc, e, reader)?;
+            Ok(Some(value))
+        }
+        row::NO_INITIALISER => Ok(None),
+        _ => Err(AllocError),
+    }
+}
+
+/// A variable.
+fn variable(alloc: Global, e: &Expanded, reader: &mut Reader<'_>) -> Result<Variable, AllocError>
+    requires { IsExpanded e.now }
+    ensures { IfOk result (λ v. Reads (variable_lem e.now) reader.old reader.new (v ∷ [])) }
+{
+    reader.take(row::VARIABLE)?;
+    let name = named(alloc, e, reader)?;
+    let initialiser = initialiser(alloc, e, reader)?;
+    Ok(Variable { name, initialiser })
+}
+
+/// Variables with their first values.
+pub(crate) fn variables(
+    alloc: Global,
+    e: &Expanded,
+    reader: &mut Reader<'_>,
+) -> Result<Vec<Variable>, AllocError>
+    requires { IsExpanded e.now }
+    ensures { IfOk result (λ v. Reads (variables_lem e.now) reader.old reader.new v.items) }
+{
+    reader.take(row::VARIABLES)?;
+    let first = variable(alloc, e, reader)?;
+    let list = variables_behind(alloc, e, reader, first)?;
+    Ok(list)
+}
+
+/// A variable, and those behind it.
+fn variables_behind(
+    alloc: Global,
+    e: &Expanded,
+    reader: &mut Reader<'_>,
+    first: Variable,
+) -> Result<Vec<Variable>, AllocError>
+    requires { IsExpanded e.now }
+    ensures { IfOk result (λ v. Reads (λ at t. first ∷ more_variables e.now at t) reader.old reader.new v.items) }
+{
+    let mut list = vec![in alloc; first]?;
+    loop {
+        match reader.row()? {
+            row::MORE_VARIABLES => {
+                reader.token()?;
+                let next = variable(alloc, e, reader)?;
+                list.push(next)?;
+            }
+            row::NO_MORE_VARIABLES => return Ok(list),
+            _ => return Err(AllocError),
+        }
+    }
+}
+
+/// The name of a block, if it has one.
+pub(crate) fn label(
+    alloc: Global,
+    e: &Expanded,
+    reader: &mut Reader<'_>,
+) -> Result<Option<NameAt>, AllocError>
+    requires { IsExpanded e.now }
+    ensures { IfOk result (λ v. Reads (label_lem e.now) reader.old reader.new v) }
+{
+    match reader.row()? {
+        row::LABEL => {
+            reader.token()?;
+            let name = named(alloc, e, reader)?;
+            Ok(Some(name))
+        }
+        row::NO_LABEL => Ok(None),
+        _ => Err(AllocError),
+    }
+}
+
+/// Variables of one type.
+fn declaration(
+    alloc: Global,
+    e: &Expanded,
+    reader: &mut Reader<'_>,
+) -> Result<Declaration, AllocError>
+    requires { IsExpanded e.now }
+    ensures { IfOk result (λ v. Reads (declaration_lem e.now) reader.old reader.new (v ∷ [])) }
+{
+    let row = reader.row()?;
+    let at = reader.token()?;
+    let list = variables(alloc, e, reader)?;
+    reader.token()?;
+    match row {
+        row::DECLARED_REAL => Ok(declared(at, Ty::Real, list)),
+        row::DECLARED_INTEGER => Ok(declared(at, Ty::Integer, list)),
+        _ => Err(AllocError),
+    }
+}
+
+/// Variables of this type.
+pub(crate) fn declared(at: u32, ty: Ty, list: Vec<Variable>) -> Declaration
+    ensures at { result.at ≡ at }
+    ensures ty { result.ty ≡ ty }
+    ensures variables { result.variables ≡ list.items }
+{
+    Declaration {
+        at,
+        ty,
+        variables: Items::new(list),
+    }
+}
+
+/// The variables of a block.
+pub(crate) fn declarations(
+    alloc: Global,
+    e: &Expanded,
+    reader: &mut Reader<'_>,
+) -> Result<Vec<Declaration>, AllocError>
+    requires { IsExpanded e.now }
+    ensures { IfOk result (λ v. Reads (declarations_lem e.now) reader.old reader.new v.items) }
+{
+    let mut list = Vec::new(alloc);
+    loop {
+        match reader.row()? {
+            row::DECLARATIONS => {
+                let next = declaration(alloc, e, reader)?;
+                list.push(next)?;
+            }
+            row::NO_DECLARATIONS => return Ok(list),
+            _ => return Err(AllocError),
+        }
+    }
+}
+
+/// A value of a `case` item, and those behind it.
+pub(crate) fn values_behind(
+    alloc: Global,
+    e: &Expanded,
+    reader: &mut Reader<'_>,
+    first: Expr,
+) -> Result<Vec<Expr>, AllocError>
+    requires { IsExpanded e.now }
+    ensures { IfOk result (λ v. Reads (λ at t. first ∷ more_values_lem e.now at t) reader.old reader.new v.items) }
+{
+    let mut list = vec![in alloc; first]?;
+    loop {
+        match reader.row()? {
+            row::MORE_VALUES => {
+                reader.token()?;
+                let next = expression(alloc, e, reader)?;
+                list.push(next)?;
+            }
+            row::NO_MORE_VALUES => return Ok(list),
+            _ => return Err(AllocError),
+        }
+    }
+}
+
+/// An analysis of an event, and those behind it.
+fn analyses_behind(
+    alloc: Global,
+    e: &Expanded,
+    reader: &mut Reader<'_>,
+    first: NameAt,
+) -> Result<Vec<NameAt>, AllocError>
+    requires { IsExpanded e.now }
+    ensures { IfOk result (λ v. Reads (λ at t. first ∷ more_analyses_lem e.now at t) reader.old reader.new v.items) }
+{
+    let mut list = vec![in alloc; first]?;
+    loop {
+        match reader.row()? {
+            row::MORE_ANALYSES => {
+                reader.token()?;
+                let next = named(alloc, e, reader)?;
+                list.push(next)?;
+            }
+            row::NO_MORE_ANALYSES => return Ok(list),
+            _ => return Err(AllocError),
+        }
+    }
+}
+
+/// The analyses of an event, if it lists any.
+fn analyses(alloc: Global, e: &Expanded, reader: &mut Reader<'_>) -> Result<Vec<NameAt>, AllocError>
+    requires { IsExpanded e.now }
+    ensures { IfOk result (λ v. Reads (analyses_lem e.now) reader.old reader.new v.items) }
+{
+    match reader.row()? {
+        row::ANALYSES => {
+            reader.token()?;
+            let first = named(alloc, e, reader)?;
+            let list = analyses_behind(alloc, e, reader, first)?;
+            reader.token()?;
+            Ok(list)
+        }
+        row::NO_ANALYSES => Ok(Vec::new(alloc)),
+        _ => Err(AllocError),
+    }
+}
+
+/// An event, and its analyses.
+#[derive(Drop)]
+pub(crate) struct EventHead {
+    pub event: EventKind,
+    pub analyses: Vec<NameAt>,
+}
+
+/// What a statement waits for (Events).
+pub(crate) fn event(
+    alloc: Global,
+    e: &Expanded,
+    reader: &mut Reader<'_>,
+) -> Result<EventHead, AllocError>
+    requires { IsExpanded e.now }
+    ensures analyses { IfOk result (λ v. Reads (event_analyses e.now) reader.old reader.new v.analyses.items) }
+    ensures event { IfOk result (λ v. v.event ≡ event_kind (first_tree (trees reader.old))) }
+{
+    match reader.row()? {
+        row::INITIAL_STEP => {
+            reader.token()?;
+            let analyses = analyses(alloc, e, reader)?;
+            Ok(EventHead {
+                event: EventKind::InitialStep,
+                analyses,
+            })
+        }
+        row::FINAL_STEP => {
+            reader.token()?;
+            let analyses = analyses(alloc, e, reader)?;
+            Ok(EventHead {
+                event: EventKind::FinalStep,
+                analyses,
+            })
+        }
+        _ => Err(AllocError),
+    }
+}
+
+/// An assignment or a contribution, behind the name with which it begins.
+fn named_statement(
+    alloc: Global,
+    e: &Expanded,
+    reader: &mut Reader<'_>,
+    at: u32,
+) -> Result<Stmt, AllocError>
+    requires { IsExpanded e.now }
+    ensures { IfOk result (λ v. Reads (named_statement_lem e.now at) reader.old reader.new v) }
+{
+    let name = name_at(alloc, e, at)?;
+    match reader.row()? {
+        row::ASSIGN => {
+            reader.token()?;
+            let value = expression(alloc, e, reader)?;
+            reader.token()?;
+            Ok(Stmt::Assign {
+                at,
+                target: name,
+                value,
+            })
+        }
+        row::CONTRIBUTE => {
+            reader.token()?;
+            let first = named(alloc, e, reader)?;
+            let second = second_node(alloc, e, reader)?;
+            reader.token()?;
+            reader.token()?;
+            let value = expression(alloc, e, reader)?;
+            reader.token()?;
+            Ok(Stmt::Contribute {
+                at,
+                access: name,
+                first,
+                second,
+                value,
+            })
+        }
+        _ => Err(AllocError),
+    }
+}
+
+/// The arguments of a task between parentheses, if it has any.
+fn task_arguments(
+    alloc: Global,
+    e: &Expanded,
+    reader: &mut Reader<'_>,
+) -> Result<Vec<Arg>, AllocError>
+    requires { IsExpanded e.now }
+    ensures { IfOk result (λ v. Reads (task_arguments_lem e.now) reader.old reader.new v.items) }
+{
+    match reader.row()? {
+        row::TASK_ARGUMENTS => {
+            reader.token()?;
+            let args = arguments(alloc, e, reader)?;
+            reader.token()?;
+            Ok(args)
+        }
+        row::NO_TASK_ARGUMENTS => Ok(Vec::new(alloc)),
+        _ => Err(AllocError),
+    }
+}
+
+/// A statement that holds no other: an assignment, a contribution, a task, or `;`.
+pub(crate) fn simple(
+    alloc: Global,
+    e: &Expanded,
+    reader: &mut Reader<'_>,
+) -> Result<Stmt, AllocError>
+    requires { IsExpanded e.now }
+    ensures { IfOk result (λ v. Reads (statement_lem e.now) reader.old reader.new v) }
+{
+    match reader.row()? {
+        row::NAMED => {
+            let at = reader.token()?;
+            let value = named_statement(alloc, e, reader, at)?;
+            Ok(value)
+        }
+        row::TASK => {
+            let at = reader.token()?;
+            let name = name_at(alloc, e, at)?;
+            let args = task_arguments(alloc, e, reader)?;
+            reader.token()?;
+            Ok(Stmt::Task {
+                at,
+                name,
+                args: Items::new(args),
+            })
+        }
+        row::NULL => {
+            let at = reader.token()?;
+            Ok(Stmt::Null { at })
+        }
+        _ => Err(AllocError),
+    }
+}
+
+/// A colon, if there is one.
+pub(crate) fn colon(reader: &mut Reader<'_>) -> Result<(), AllocError>
+    ensures { IfOk result (λ v. Reads (λ _ _. tt) reader.old reader.new v) }
+{
+    match reader.row()? {
+        row::COLON => {
+            reader.token()?;
+            Ok(())
+        }
+        row::NO_COLON => Ok(()),
+        _ => Err(AllocError),
+    }
+}

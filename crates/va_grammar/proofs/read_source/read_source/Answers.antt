@@ -1,6 +1,0 @@
-use Rattle.std.proofs.Common.{arith}
-use Rattle.va_grammar.proofs.TopItems.{read_source}
-use Rattle.va_grammar.proofs.read_source.read_source.Goals as goal
-
-pub returns : goal.returns
-returns c = read_source c.args.e.now _ c.requires.parsed _ (grind arith) (grind arith) (grind arith)

@@ -1,7 +1,0 @@
-use Rattle.va_report.proofs.Printing.{◌▸◌}
-use Rattle.va_report.proofs.parameter.put_operating_point.Goals as goal
-
-pub returns : goal.returns
-returns c =
-    rw (← c.as_list.ensures, ← c.own_name.ensures, ← c.type_word.ensures)
-    (c.in_ok-put_word.ensures ▸ c.in_ok-put_index.ensures ▸ c.in_ok-put_bytes.ensures ▸ c.in_ok-put_word-2.ensures ▸ c.in_ok-put_quoted.ensures ▸ c.in_ok-put_quoted-2.ensures)

@@ -1,8 +1,0 @@
-use Rattle.va_report.proofs.Printing.{◌▸◌}
-use Rattle.va_report.proofs.table.put_module.Goals as goal
-
-pub returns : goal.returns
-returns c =
-    rw (← c.as_list.ensures, ← c.as_list-2.ensures, ← c.as_list-3.ensures, ← c.as_list-4.ensures)
-    (((((c.in_ok-put_module_name.ensures ▸ c.in_ok-put_ports.ensures) ▸ c.in_ok-put_nodes.ensures) ▸ c.in_ok-put_entries.ensures)
-    ▸ c.in_ok-put_pairs.ensures) ▸ c.in_ok-put_parameters.ensures)

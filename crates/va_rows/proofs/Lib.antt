@@ -1,6 +1,0 @@
-pub mod Facts
-pub mod VaFits
-pub mod Entries
-pub mod VaSymbols
-pub mod KindsEnd
-pub mod Spellings

@@ -1,6 +1,0 @@
-use Rattle.std.specs.Prelude.{◌≡◌, drop}
-use Rattle.va_rows.specs.Kinds.{spelled_among}
-use Rattle.va_rows.proofs.token_kinds.spelled.Given as goal
-
-abbrev pub invariant-loop-terminal : goal.invariant-loop-terminal
-invariant-loop-terminal l = spelled_among l.terminals l.bytes l.other ≡ spelled_among (drop l.terminal-index l.terminals) l.bytes l.other

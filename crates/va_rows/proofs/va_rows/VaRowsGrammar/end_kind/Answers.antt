@@ -1,6 +1,0 @@
-use Rattle.va_rows.specs.Sets.{va_rules}
-use Rattle.va_rows.proofs.va_rows.VaRowsGrammar.end_kind.Goals as goal
-
-pub returns : goal.returns
-unfolding va_rules
-returns c = c.number.ensures

@@ -1,9 +1,0 @@
-pub mod Terminals
-pub mod Nonterminals
-pub mod Parts
-pub mod Cells
-pub mod Rows
-pub mod Sets
-pub mod Evidence
-pub mod VaLaws
-pub mod Kinds

@@ -1,5 +1,0 @@
-use Rattle.vaosdi.proofs.Reading.{stands_first}
-use Rattle.vaosdi.proofs.compile.unbuilt.Goals as goal
-
-pub returns : goal.returns
-returns c = stands_first c.args.e.now c.as_list.result.now _ c.as_list.ensures c.requires.expanded

@@ -1,8 +1,0 @@
--- The request of a command.
-use Rattle.vaosdi.specs.declared.request.Command.{Command}
-use Rattle.vaosdi.specs.declared.request.Command.TheVariants.{Compile, Read}
-use Rattle.vaosdi.specs.Requests.{Request, compile, read}
-
-abbrev pub request_of : Command → Request
-request_of (Compile file) = compile file.now
-request_of (Read file) = read file.now
