@@ -12,4 +12,4 @@ pub mod va_rows;
 pub use nonterminal::Nonterminal;
 pub use terminal::Terminal;
 pub use token_kinds::kinds;
-pub use va_grammar::VaRows;
+pub use va_rows::VaRows;
