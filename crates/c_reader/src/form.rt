@@ -10,10 +10,10 @@ use c_form::fields::fields_fault;
 use c_form::locals::locals_fault;
 use c_form::numbering::numbering_fault;
 use c_form::tables::tables_fault;
-use c_raw::RawFile;
 use c_form_reach::reach_fault;
 use c_form_settings::settings::settings_fault;
 use c_form_types::types_fault;
+use c_raw::RawFile;
 use std::alloc::Global;
 use va_base::NoMemory;
 

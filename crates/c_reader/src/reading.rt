@@ -9,9 +9,9 @@ ghost use Rattle.c_reader.specs.Answers.{Reading, IsReading, Answers};
 ghost use Rattle.c_reader.specs.Reading.{IsFileOf, IsBadByte, IsFormFault};
 
 use crate::form::form_fault;
-use c_raw_file::file_of;
-use c_raw_build::read_raw;
 use c_raw::RawFile;
+use c_raw_build::read_raw;
+use c_raw_file::file_of;
 use c_syntax::{CErr, ParsedFile, parse_file};
 use c_tree::CFile;
 use std::alloc::Global;

@@ -14,12 +14,12 @@ use crate::status::Status;
 use alg_laws::Algebra;
 use c_reader::read;
 use c_syntax::{CErr, place};
+use c_tables::tables;
 use c_tree::CFile;
 use std::alloc::Global;
 use std::marker::PhantomData;
 use va_base::{Fault, FaultCode, NoMemory, Phase, Place};
 use va_io::{FileErr, Files};
-use c_tables::tables;
 
 /// The most bytes of a C file.
 const MOST_BYTES: usize = 67108864;
