@@ -16,7 +16,7 @@ use Rattle.c_tree.specs.RawOf.{field_of}
 use Rattle.c_tree.specs.Spelling.{is_number_text, is_field_name}
 use Rattle.c_tree.specs.Text.{field_word}
 use Rattle.c_tree.specs.rules.Fields.{same_field}
-use Rattle.c_law_print_parses.proofs.Digits.{decimal_written}
+use Rattle.c_law_words.proofs.Digits.{decimal_written}
 
 cond_true : {T : Type 0} (test : Bool) (x y : T) → test ≡ true → (if test then x else y) ≡ x
 cond_true test x y h = rw h refl

@@ -26,8 +26,8 @@ use Rattle.c_tree.specs.Raw.{At, RawBlock, closed, leave}
 use Rattle.c_tree.specs.RawOf.{at_0, field_of, raw_field, raw_right, raw_simple, raw_then, raw_body, raw_function, raw_flag, raw_access, raw_load, loads_raw, raw_node, raw_pair, raw_entry, raw_param, raw_module, raw_descriptor, raw_of}
 use Rattle.c_tree.specs.Spelling.{EachHas, HaveBlocks, CanBeSpelled, is_field_name, spells_row, spells_tables}
 use Rattle.c_tree.specs.Text.{field_type, field_word}
-use Rattle.c_law_print_parses.specs.Values.{field_in}
-use Rattle.c_law_print_parses.proofs.Values.{field_name_back}
+use Rattle.c_law_words.specs.Values.{field_in}
+use Rattle.c_law_words.proofs.Values.{field_name_back}
 use Rattle.c_law_form_ignores_places.proofs.Alike.{map_map, map_same}
 use Rattle.c_law_form_ignores_places.proofs.FieldNames.{name_back}
 use Rattle.c_law_form_ignores_places.proofs.ForcedFiles.{spelled_tables}

@@ -29,14 +29,14 @@ use Rattle.c_raw_build.specs.Placed.{Placed, part, spine, is_of, width}
 use Rattle.c_raw_build.specs.RawAtoms.{ty_of, cell, node_number, atom_of, placed_atom, callee_of, values, operator_of, operation, conversion, right_of}
 use Rattle.c_raw_build.specs.RowNumbers.{values_row, more_values_row}
 use Rattle.c_raw_build.specs.Words.{CText, number_zero, real_at, field_at, function_at, library_function_at, second_number}
-use Rattle.c_law_print_parses.proofs.Listed.{row_list}
+use Rattle.c_law_words.proofs.Listed.{row_list}
 use Rattle.c_law_print_parses.proofs.Placing.{StandsAt, stands_split, row_stands}
-use Rattle.c_law_print_parses.specs.Values.{field_in, library_function}
-use Rattle.c_law_print_parses.proofs.Reals.{real_value}
-use Rattle.c_law_print_parses.proofs.Values.{integer_back, unsigned_back, numbered_back, field_back, function_back, fun1_back, fun2_back}
+use Rattle.c_law_words.specs.Values.{field_in, library_function}
+use Rattle.c_law_words.proofs.Reals.{real_value}
+use Rattle.c_law_words.proofs.Values.{integer_back, unsigned_back, numbered_back, field_back, function_back, fun1_back, fun2_back}
 use Rattle.c_law_print_parses.proofs.Atoms.{type_tree, cell_by, cell_tree, node_tree, node_words, atom_tree, atom_written, atom_part, operator_tree, operator_written, operation_pieces, operation_written, more_values_tree, more_values_written, values_tree, values_written, callee_tree, callee_written, call_pieces, binary_pieces, right_tree}
 use Rattle.c_law_print_parses.proofs.Lefts.{more_values_left}
-use Rattle.c_law_print_parses.proofs.Pieces.{◌▹◌, Pieces, part as piece, ◌⋄◌, line}
+use Rattle.c_law_words.proofs.Pieces.{◌▹◌, Pieces, part as piece, ◌⋄◌, line}
 
 abbrev more_values_pieces : CAtom → List CAtom → Pieces
 more_values_pieces a args = line (codes ",") ⋄ atom_part a ⋄ piece more_values_left (more_values_tree args) (marked (codes ",") atom_words args)

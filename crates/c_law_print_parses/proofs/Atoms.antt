@@ -27,11 +27,11 @@ use Rattle.c_tree.specs.Words.{Word, template, numbered, unsigned, word, real_wo
 use Rattle.c_syntax.specs.grammar.Kinds.{kind_of}
 use Rattle.c_law_print_parses.proofs.Lefts.{type_left, field_name_left, cell_left, integer_left, number_left, node_left, atom_left, operator_left, operation_left, conversion_left, callee_left, values_left, more_values_left, right_left}
 use Rattle.c_raw_build.specs.RowNumbers.{real_type_row, integer_type_row, numbered_field_row, temperature_field_row, instance_cell_row, model_cell_row, integer_zero_row, integer_one_row, integer_row, number_zero_row, number_one_row, number_three_row, number_row, node_row, local_atom_row, argument_atom_row, integer_atom_row, real_atom_row, cell_atom_row, unknown_atom_row, plus_row, minus_row, times_row, over_row, remainder_row, less_row, at_most_row, greater_row, at_least_row, same_row, differs_row, operation_row, no_operation_row, to_real_row, to_integer_row, named_function_row, module_function_row, values_row, no_values_row, more_values_row, no_more_values_row, negated_row, contrary_row, converted_row, called_row, operands_row}
-use Rattle.c_law_print_parses.proofs.Listed.{row_list, name_list}
-use Rattle.c_law_print_parses.proofs.Pieces.{◌▹◌, IsWord, Writes, Pieces, fixed, named, part, ◌⋄◌, line, row_tree, row_written}
-use Rattle.c_law_print_parses.proofs.Numbers.{integer_word, unsigned_word}
-use Rattle.c_law_print_parses.proofs.Reals.{real_named}
-use Rattle.c_law_print_parses.proofs.Names.{local_word, argument_word, param_word, given_word, resist_word, react_word, entry_resist_word, entry_react_word, opvar_word, stored_word, module_function_word, fun1_named, fun2_named}
+use Rattle.c_law_words.proofs.Listed.{row_list, name_list}
+use Rattle.c_law_words.proofs.Pieces.{◌▹◌, IsWord, Writes, Pieces, fixed, named, part, ◌⋄◌, line, row_tree, row_written}
+use Rattle.c_law_words.proofs.Numbers.{integer_word, unsigned_word}
+use Rattle.c_law_words.proofs.Reals.{real_named}
+use Rattle.c_law_words.proofs.Names.{local_word, argument_word, param_word, given_word, resist_word, react_word, entry_resist_word, entry_react_word, opvar_word, stored_word, module_function_word, fun1_named, fun2_named}
 
 -- words that are the same
 pub written_as : {left : ℕ} {t : Tree} {us vs : List Word} → Writes left t us → us ≡ vs → Writes left t vs

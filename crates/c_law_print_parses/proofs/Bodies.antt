@@ -20,9 +20,9 @@ use Rattle.c_tree.specs.Text.{type_word, field_word, level_word, atom_words, loc
 use Rattle.c_tree.specs.Words.{Word, template, word, unsigned}
 use Rattle.c_law_print_parses.proofs.Lefts.{type_left, statement_left, statements_left, first_value_left, if_rest_left, instance_target_left}
 use Rattle.c_raw_build.specs.RowNumbers.{statements_row, no_statements_row, constant_row, declared_row, assigned_row, if_row, for_row, set_model_row, set_instance_row, report_row, first_value_row, no_first_value_row, break_row, two_arms_row, field_target_row, collapse_target_row}
-use Rattle.c_law_print_parses.proofs.Listed.{row_list, name_list}
-use Rattle.c_law_print_parses.proofs.Pieces.{◌▹◌, Writes, Pieces, fixed, named, part, ◌⋄◌, line, row_tree, row_written}
-use Rattle.c_law_print_parses.proofs.Names as names
+use Rattle.c_law_words.proofs.Listed.{row_list, name_list}
+use Rattle.c_law_words.proofs.Pieces.{◌▹◌, Writes, Pieces, fixed, named, part, ◌⋄◌, line, row_tree, row_written}
+use Rattle.c_law_words.proofs.Names as names
 use Rattle.c_law_print_parses.proofs.Atoms.{written_as, type_tree, type_written, field_written, field_part, number_part, number_written, atom_part, atom_written, right_part, right_written}
 
 abbrev pub type_part : Ty → Pieces

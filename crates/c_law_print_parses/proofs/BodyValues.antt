@@ -25,14 +25,14 @@ use Rattle.c_tree.specs.Words.{Word, template, word}
 use Rattle.c_raw_build.specs.Placed.{width}
 use Rattle.c_raw_build.specs.RawBodies.{declared, instance_target, simple_of, block_of, statement, body_block}
 use Rattle.c_raw_build.specs.Words.{CText, word_at}
-use Rattle.c_law_print_parses.proofs.Listed.{row_list}
+use Rattle.c_law_words.proofs.Listed.{row_list}
 use Rattle.c_law_print_parses.proofs.Placing.{StandsAt, stands_moved, stands_split, row_stands, written_width}
 use Rattle.c_law_print_parses.proofs.AtomValues.{placed, type_value, field_value, atom_value, right_value}
-use Rattle.c_law_print_parses.proofs.Values.{unsigned_back, numbered_back}
+use Rattle.c_law_words.proofs.Values.{unsigned_back, numbered_back}
 use Rattle.c_law_print_parses.proofs.Atoms.{written_as, field_part, type_tree, type_written, field_name_tree, field_written, atom_tree, atom_written, right_written}
 use Rattle.c_law_print_parses.proofs.Bodies.{no_first_value_written, first_value_written, field_target_written, flag_pieces, flag_target_written, constant_pieces, set_instance_pieces, set_model_pieces, set_tree, simple_tree, simple_written, no_statements, no_statements_written, before, before_written, arms_pieces, choice_pieces, choice_written, leave_pieces, leave_written, loop_pieces, loop_written, statements_tree, statements_written, spells_block, four_parts, flat_spells, loop_words, body_tree}
-use Rattle.c_law_print_parses.proofs.Names as names
-use Rattle.c_law_print_parses.proofs.Pieces.{◌▹◌, Writes, row_tree}
+use Rattle.c_law_words.proofs.Names as names
+use Rattle.c_law_words.proofs.Pieces.{◌▹◌, Writes, row_tree}
 use Rattle.c_law_print_parses.proofs.Lefts.{statements_left}
 use Rattle.c_raw_build.specs.RowNumbers.{statements_row, if_row, for_row, field_target_row, collapse_target_row}
 

@@ -16,16 +16,16 @@ use Rattle.c_raw_build.specs.Placed.{part, width}
 use Rattle.c_raw_build.specs.RawFiles.{fields, functions, access, setup_model, setup_instance, eval, raw_module, modules, file}
 use Rattle.c_raw_build.specs.RawTables.{loads, node_rows, entry_rows, pair_rows, param_rows, descriptor, descriptors}
 use Rattle.c_raw_build.specs.Words.{CText}
-use Rattle.c_law_print_parses.proofs.Listed.{row_list}
+use Rattle.c_law_words.proofs.Listed.{row_list}
 use Rattle.c_law_print_parses.proofs.Lefts.{descriptors_left, module_left, modules_left}
-use Rattle.c_law_print_parses.proofs.Pieces.{◌▹◌, part as piece, ◌⋄◌, words}
+use Rattle.c_law_words.proofs.Pieces.{◌▹◌, part as piece, ◌⋄◌, words}
 use Rattle.c_law_print_parses.proofs.Placing.{StandsAt, stands_as, row_stands}
 use Rattle.c_law_print_parses.proofs.AtomValues.{placed}
 use Rattle.c_law_print_parses.proofs.FunctionValues.{fields_value, functions_value, found_value}
 use Rattle.c_law_print_parses.proofs.Loads.{setup_model_tree, setup_instance_tree, eval_tree, loads_tree}
 use Rattle.c_law_print_parses.proofs.LoadValues.{setup_model_value, setup_instance_value, eval_value, loads_value}
 use Rattle.c_law_print_parses.proofs.TableValues.{string_value, nodes_value, entries_value, pairs_value, params_value}
-use Rattle.c_law_print_parses.proofs.Values.{unsigned_back}
+use Rattle.c_law_words.proofs.Values.{unsigned_back}
 use Rattle.c_law_print_parses.proofs.Atoms.{number_written}
 use Rattle.c_law_print_parses.proofs.Functions.{functions_tree, structs_pieces, structs_tree, structs_shown, next_counted}
 use Rattle.c_law_print_parses.proofs.Tables.{table_pieces, tables_tree, tables_are, four_shown, from_zero}

@@ -13,10 +13,10 @@ use Rattle.c_tree.specs.Text.{help_words, structs_words, function_words, access_
 use Rattle.c_tree.specs.Words.{Word, template, word, numbered, unsigned, string_word, include_words}
 use Rattle.c_law_print_parses.proofs.Lefts.{file_left, help_left, modules_left, module_left, structs_left, functions_left, setup_model_left, setup_instance_left, eval_left, loads_left, tables_left, exports_left, descriptors_left, descriptor_left}
 use Rattle.c_raw_build.specs.RowNumbers.{file_row, help_row, modules_row, no_modules_row, module_row, exports_row, descriptors_row, descriptor_row, no_descriptor_row}
-use Rattle.c_law_print_parses.proofs.Listed.{row_list, name_list}
-use Rattle.c_law_print_parses.proofs.Pieces.{◌▹◌, IsWord, Writes, Pieces, Shown, flat, fixed, named, part, ◌⋄◌, line, words, row_tree, row_written}
-use Rattle.c_law_print_parses.proofs.Names.{looked_at, model_word, inst_word, access_word, setup_model_word, setup_instance_word, eval_word, nodes_word, entries_word, collapse_word, params_word, residual_resist_word, residual_react_word, jacobian_resist_word, jacobian_react_word, jacobian_tran_word, spice_rhs_dc_word, spice_rhs_tran_word}
-use Rattle.c_law_print_parses.proofs.Strings.{string_named}
+use Rattle.c_law_words.proofs.Listed.{row_list, name_list}
+use Rattle.c_law_words.proofs.Pieces.{◌▹◌, IsWord, Writes, Pieces, Shown, flat, fixed, named, part, ◌⋄◌, line, words, row_tree, row_written}
+use Rattle.c_law_words.proofs.Names.{looked_at, model_word, inst_word, access_word, setup_model_word, setup_instance_word, eval_word, nodes_word, entries_word, collapse_word, params_word, residual_resist_word, residual_react_word, jacobian_resist_word, jacobian_react_word, jacobian_tran_word, spice_rhs_dc_word, spice_rhs_tran_word}
+use Rattle.c_law_words.proofs.Strings.{string_named}
 use Rattle.c_law_print_parses.proofs.Atoms.{written_as, number_part, number_written}
 use Rattle.c_law_print_parses.proofs.Functions.{structs_tree, structs_written, functions_tree, functions_words, functions_written, functions_are, next_counted}
 use Rattle.c_law_print_parses.proofs.Loads.{setup_model_tree, setup_model_written, setup_instance_tree, setup_instance_written, eval_tree, eval_written, loads_tree, loads_written}

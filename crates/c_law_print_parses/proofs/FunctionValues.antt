@@ -13,24 +13,24 @@ use Rattle.c_tree.specs.Blocks.{HasBlocks}
 use Rattle.c_tree.specs.FileOf as given
 use Rattle.c_tree.specs.Raw.{RawArgument}
 use Rattle.c_tree.specs.Spelling.{EachHas, is_unsigned, spells_cell, spells_atom, spells_statement, spells_function, spells_flag, spells_access, spells_row}
-use Rattle.c_law_print_parses.specs.Values.{field_in}
+use Rattle.c_law_words.specs.Values.{field_in}
 use Rattle.c_tree.specs.Text.{field_type, field_word, field_words, argument_words, flag_words, access_row_words}
 use Rattle.c_tree.specs.Words.{template, marked, with_commas}
 use Rattle.c_raw_build.specs.Placed.{Placed, spine, is_of, width, elements}
 use Rattle.c_raw_build.specs.RawFiles.{raw_field, fields, argument, arguments, function, flag, access_row, functions, access}
 use Rattle.c_raw_build.specs.RowNumbers.{arguments_row as first_argument, more_arguments_row as next_argument}
 use Rattle.c_raw_build.specs.Words.{CText, field_at}
-use Rattle.c_law_print_parses.proofs.Listed.{row_list}
+use Rattle.c_law_words.proofs.Listed.{row_list}
 use Rattle.c_law_print_parses.proofs.Lefts.{fields_left, more_arguments_left, access_rows_left}
 use Rattle.c_raw_build.specs.RowNumbers.{instance_test_row, access_rows_row}
-use Rattle.c_law_print_parses.proofs.Pieces.{◌▹◌, part as piece, ◌⋄◌, line}
+use Rattle.c_law_words.proofs.Pieces.{◌▹◌, part as piece, ◌⋄◌, line}
 use Rattle.c_law_print_parses.proofs.Placing.{StandsAt, row_stands}
 use Rattle.c_law_print_parses.proofs.AtomValues.{placed, type_value, cell_value, atom_value}
 use Rattle.c_law_print_parses.proofs.BodyValues.{body_value}
-use Rattle.c_law_print_parses.proofs.Values.{unsigned_back, numbered_back, field_name_back}
-use Rattle.c_law_print_parses.proofs.Names.{argument_word, module_function_word}
-use Rattle.c_law_print_parses.proofs.Names as names
-use Rattle.c_law_print_parses.proofs.Strings.{field_row_named}
+use Rattle.c_law_words.proofs.Values.{unsigned_back, numbered_back, field_name_back}
+use Rattle.c_law_words.proofs.Names.{argument_word, module_function_word}
+use Rattle.c_law_words.proofs.Names as names
+use Rattle.c_law_words.proofs.Strings.{field_row_named}
 use Rattle.c_law_print_parses.proofs.Atoms.{type_tree, type_written, number_tree, number_written, cell_tree, cell_written, atom_tree, atom_written}
 use Rattle.c_law_print_parses.proofs.Bodies.{body_tree, body_written}
 use Rattle.c_law_print_parses.proofs.Functions.{field_row_pieces, fields_tree, fields_written, argument_pieces, is_argument, more_arguments_tree, more_arguments_written, arguments_tree, arguments_written, instance_test_tree, instance_test_written, flag_pieces, flag_tree, flag_written, access_pieces, access_rows_tree, access_rows_written, instance_written, model_written, found_pieces, function_pieces, functions_words, functions_tree, functions_written, next_counted}

@@ -16,11 +16,11 @@ use Rattle.c_tree.specs.Text.{field_type, field_words, structs_words, atom_words
 use Rattle.c_tree.specs.Words.{Word, template, word, numbered, array_length, marked, with_commas, cast_words}
 use Rattle.c_law_print_parses.proofs.Lefts.{structs_left, fields_left, functions_left, function_or_access_left, arguments_left, more_arguments_left, access_rows_left, instance_test_left, flag_setting_left, instance_left, model_left}
 use Rattle.c_raw_build.specs.RowNumbers.{structs_row, fields_row, no_fields_row, functions_row, function_row, access_row, arguments_row, no_arguments_row, more_arguments_row, no_more_arguments_row, access_rows_row, no_access_rows_row, instance_test_row, no_instance_test_row, flag_setting_row, no_flag_setting_row, instance_row, model_row}
-use Rattle.c_law_print_parses.proofs.Listed.{row_list, name_list}
-use Rattle.c_law_print_parses.proofs.Pieces.{◌▹◌, Writes, Pieces, Shown, flat, fixed, named, part, ◌⋄◌, line, row_tree, row_written}
-use Rattle.c_law_print_parses.proofs.Names.{argument_word, module_function_word, inst_word, model_word}
-use Rattle.c_law_print_parses.proofs.Names as names
-use Rattle.c_law_print_parses.proofs.Strings.{field_row_named}
+use Rattle.c_law_words.proofs.Listed.{row_list, name_list}
+use Rattle.c_law_words.proofs.Pieces.{◌▹◌, Writes, Pieces, Shown, flat, fixed, named, part, ◌⋄◌, line, row_tree, row_written}
+use Rattle.c_law_words.proofs.Names.{argument_word, module_function_word, inst_word, model_word}
+use Rattle.c_law_words.proofs.Names as names
+use Rattle.c_law_words.proofs.Strings.{field_row_named}
 use Rattle.c_law_print_parses.proofs.Atoms.{type_written, number_part, number_written, cell_part, cell_written, atom_part, atom_written}
 use Rattle.c_law_print_parses.proofs.Bodies.{type_part, body_part, body_written}
 

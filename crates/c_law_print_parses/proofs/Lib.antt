@@ -1,14 +1,4 @@
-pub mod Separate
-pub mod Reading
-pub mod Derived
-pub mod Listed
-pub mod Pieces
 pub mod Sentence
-pub mod Digits
-pub mod Numbers
-pub mod Names
-pub mod Reals
-pub mod Strings
 pub mod Lefts
 pub mod Atoms
 pub mod Bodies
@@ -17,7 +7,6 @@ pub mod Loads
 pub mod Tables
 pub mod Files
 pub mod Printed
-pub mod Values
 pub mod Placing
 pub mod AtomValues
 pub mod BodyValues

@@ -25,14 +25,14 @@ use Rattle.c_raw_build.specs.Placed.{width}
 use Rattle.c_raw_build.specs.RawFiles.{setup_model, setup_instance, eval}
 use Rattle.c_raw_build.specs.RawTables.{matrix_target, target_of, sign_of, factor_of, more_factors, load, load_statements, load_function, loads}
 use Rattle.c_raw_build.specs.Words.{CText}
-use Rattle.c_law_print_parses.proofs.Listed.{row_list}
+use Rattle.c_law_words.proofs.Listed.{row_list}
 use Rattle.c_law_print_parses.proofs.Lefts.{more_factors_left, load_statements_left}
-use Rattle.c_law_print_parses.proofs.Pieces.{◌▹◌, part as piece, ◌⋄◌, line}
+use Rattle.c_law_words.proofs.Pieces.{◌▹◌, part as piece, ◌⋄◌, line}
 use Rattle.c_law_print_parses.proofs.Placing.{StandsAt, stands_split, row_stands}
 use Rattle.c_law_print_parses.proofs.AtomValues.{placed, field_value, node_value}
 use Rattle.c_law_print_parses.proofs.BodyValues.{body_value}
-use Rattle.c_law_print_parses.proofs.Values.{unsigned_back}
-use Rattle.c_law_print_parses.proofs.Names as names
+use Rattle.c_law_words.proofs.Values.{unsigned_back}
+use Rattle.c_law_words.proofs.Names as names
 use Rattle.c_law_print_parses.proofs.Atoms.{node_words}
 use Rattle.c_law_print_parses.proofs.Bodies.{body_written}
 use Rattle.c_law_print_parses.proofs.Functions.{instance_written, model_written}

@@ -21,9 +21,9 @@ use Rattle.c_tree.specs.Text.{init_words, setup_model_words, setup_instance_word
 use Rattle.c_tree.specs.Words.{Word, template, word, numbered, unsigned, marked}
 use Rattle.c_law_print_parses.proofs.Lefts.{reset_left, setup_model_left, setup_instance_left, eval_left, loads_left, residual_resist_left, residual_react_left, jacobian_resist_left, jacobian_react_left, jacobian_tran_left, spice_rhs_dc_left, spice_rhs_tran_left, load_statements_left, load_target_left, matrix_target_left, load_sign_left, factor_left, more_factors_left, node_left}
 use Rattle.c_raw_build.specs.RowNumbers.{reset_row, setup_model_row, setup_instance_row, eval_row, loads_row, residual_resist_row, residual_react_row, jacobian_resist_row, jacobian_react_row, jacobian_tran_row, spice_rhs_dc_row, spice_rhs_tran_row, load_row, no_load_row, node_target_row, matrix_target_row, resist_target_row, react_target_row, put_row, add_row, subtract_row, alpha_row, cell_factor_row, solution_factor_row, more_factors_row, no_more_factors_row}
-use Rattle.c_law_print_parses.proofs.Listed.{row_list, name_list}
-use Rattle.c_law_print_parses.proofs.Pieces.{◌▹◌, IsWord, Writes, Pieces, Shown, flat, fixed, named, part, ◌⋄◌, line, row_tree, row_written}
-use Rattle.c_law_print_parses.proofs.Names as names
+use Rattle.c_law_words.proofs.Listed.{row_list, name_list}
+use Rattle.c_law_words.proofs.Pieces.{◌▹◌, IsWord, Writes, Pieces, Shown, flat, fixed, named, part, ◌⋄◌, line, row_tree, row_written}
+use Rattle.c_law_words.proofs.Names as names
 use Rattle.c_law_print_parses.proofs.Atoms.{number_part, number_written, node_tree, node_words, node_written, unknown_pieces, field_part, field_written}
 use Rattle.c_law_print_parses.proofs.Bodies.{body_part, body_written}
 use Rattle.c_law_print_parses.proofs.Functions.{instance_part, instance_written, model_part, model_written}

@@ -8,8 +8,8 @@ use Rattle.c_tree.specs.declared.token.CToken.{CToken}
 use Rattle.c_tree.specs.tokens.Tokens.{bytes_of}
 use Rattle.c_raw_build.specs.Placed.{width, width_of}
 use Rattle.c_raw_build.specs.Words.{CText, word_of, word_at}
-use Rattle.c_law_print_parses.specs.Kinds.{kind_of_word}
-use Rattle.c_law_print_parses.proofs.Pieces.{Writes, Pieces, Piece, a_name, a_word, a_tree, words, words_of, flat, flat_same, Shown}
+use Rattle.c_law_words.specs.Kinds.{kind_of_word}
+use Rattle.c_law_words.proofs.Pieces.{Writes, Pieces, Piece, a_name, a_word, a_tree, words, words_of, flat, flat_same, Shown}
 
 -- the words stand in the text from this token on
 abbrev pub StandsAt : CText → ℕ → List Word → Type 0

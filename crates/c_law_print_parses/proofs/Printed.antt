@@ -10,9 +10,9 @@ use Rattle.c_tree.specs.tokens.Tokens.{c_tokens_of}
 use Rattle.c_syntax.specs.Syntax.{text_kinds}
 use Rattle.c_syntax.specs.grammar.Kinds.{kind_of, kind_in}
 use Rattle.c_syntax.specs.grammar.Sets.{c_rules}
-use Rattle.c_law_print_parses.specs.Kinds.{kind_of_word}
+use Rattle.c_law_words.specs.Kinds.{kind_of_word}
 use Rattle.c_law_print_parses.specs.Printed.{PrintIsRead, PrintIsSyntax}
-use Rattle.c_law_print_parses.proofs.Reading.{read_words, words_are_read}
+use Rattle.c_law_words.proofs.Reading.{read_words, words_are_read}
 use Rattle.c_law_print_parses.proofs.Sentence.{sentence}
 use Rattle.c_law_print_parses.proofs.Files.{file_tree, file_written}
 

@@ -9,10 +9,10 @@ use Rattle.predict.specs.Table.{is_among, kinds_at}
 use Rattle.predict.proofs.Complete.{row_closed}
 use Rattle.c_tree.specs.Words.{Word}
 use Rattle.c_syntax.specs.grammar.Sets.{c_grammar, c_sets, c_rules}
-use Rattle.c_law_print_parses.specs.Kinds.{kind_of_word}
-use Rattle.c_law_print_parses.proofs.Derived.{Derives, tree_is}
-use Rattle.c_law_print_parses.proofs.Listed.{rows_same, c_closed, c_apart}
-use Rattle.c_law_print_parses.proofs.Pieces.{Writes}
+use Rattle.c_law_words.specs.Kinds.{kind_of_word}
+use Rattle.c_law_words.proofs.Derived.{Derives, tree_is}
+use Rattle.c_law_words.proofs.Listed.{rows_same, c_closed, c_apart}
+use Rattle.c_law_words.proofs.Pieces.{Writes}
 
 end_follows : is_among (kinds_at c_sets.follows 0) 0 ≡ true
 end_follows = (and_parts (is_among (kinds_at c_sets.follows c_grammar.start) c_grammar.end_kind) (list_all (row_closed c_sets) c_grammar.rows) c_closed).0

@@ -12,7 +12,7 @@ use Rattle.c_syntax.specs.grammar.Sets.{c_rules}
 use Rattle.predict.proofs.Unique.{only_tree}
 use Rattle.c_raw_build.specs.RawOf.{raw_of}
 use Rattle.c_raw_build.specs.Words.{CText}
-use Rattle.c_law_print_parses.specs.Standing.{tokens_of_words}
+use Rattle.c_law_words.specs.Standing.{tokens_of_words}
 use Rattle.c_law_print_parses.specs.Stands.{PrintStandsFor}
 use Rattle.c_law_print_parses.proofs.Placing.{StandsAt, stands_from}
 use Rattle.c_law_print_parses.proofs.Printed.{text_is, print_is_read, text_sentence}

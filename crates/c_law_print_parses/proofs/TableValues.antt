@@ -19,15 +19,15 @@ use Rattle.c_tree.specs.Words.{Word, template, word, string_word, marked}
 use Rattle.c_raw_build.specs.Placed.{width}
 use Rattle.c_raw_build.specs.RawTables.{node_row, node_rows, second_node, pair, has_resist, has_react, entry_row, entry_rows, pair_rows, more_strings, is_integer_param, param_kind, param_row, param_rows}
 use Rattle.c_raw_build.specs.Words.{CText, word_at, string_at, string_bytes, between_quotes}
-use Rattle.c_law_print_parses.proofs.Listed.{row_list}
+use Rattle.c_law_words.proofs.Listed.{row_list}
 use Rattle.c_law_print_parses.proofs.Lefts.{node_rows_left, pair_rows_left, entry_rows_left, param_rows_left}
 use Rattle.c_raw_build.specs.RowNumbers.{pair_row as pair_number}
-use Rattle.c_law_print_parses.proofs.Pieces.{◌▹◌, Writes, part as piece, ◌⋄◌, line, row_tree}
+use Rattle.c_law_words.proofs.Pieces.{◌▹◌, Writes, part as piece, ◌⋄◌, line, row_tree}
 use Rattle.c_law_print_parses.proofs.Placing.{StandsAt, row_stands}
 use Rattle.c_law_print_parses.proofs.AtomValues.{placed}
-use Rattle.c_law_print_parses.proofs.Values.{integer_back, unsigned_back, string_back}
-use Rattle.c_law_print_parses.proofs.Names.{inst_word}
-use Rattle.c_law_print_parses.proofs.Strings.{string_named}
+use Rattle.c_law_words.proofs.Values.{integer_back, unsigned_back, string_back}
+use Rattle.c_law_words.proofs.Names.{inst_word}
+use Rattle.c_law_words.proofs.Strings.{string_named}
 use Rattle.c_law_print_parses.proofs.Atoms.{number_tree, number_written, integer_written, field_written}
 use Rattle.c_law_print_parses.proofs.Functions.{next_counted}
 use Rattle.c_law_print_parses.proofs.Tables.{node_pieces, nodes_words, nodes_tree, nodes_written, second_tree, second_written, pair_pieces, pair_part, pair_written, rows_words, rows_next, pairs_tree, pairs_written, pointer_tree, pointer_written, parts_tree, parts_written, entry_pieces, entries_words, entries_tree, entries_written, named_words, more_strings_tree, more_strings_written, param_type_tree, param_type_written, param_kind_tree, param_kind_written, param_pieces, param_words, param_tree, params_tree, params_written, parameter_is, aliases_counted}

@@ -18,10 +18,10 @@ use Rattle.c_tree.specs.Text.{node_words, second_word, pair_words, react_offset_
 use Rattle.c_tree.specs.Words.{Word, template, word, numbered, unsigned, string_word, marked, with_commas}
 use Rattle.c_law_print_parses.proofs.Lefts.{tables_left, node_rows_left, node_row_left, entry_rows_left, entry_row_left, pair_left, second_node_left, react_pointer_left, entry_parts_left, and_react_left, pair_rows_left, pair_row_left, param_rows_left, param_row_left, more_strings_left, param_type_left, param_kind_left}
 use Rattle.c_raw_build.specs.RowNumbers.{tables_row, node_rows_row, node_row_row, no_node_row_row, entry_rows_row, entry_row_row, no_entry_row_row, pair_row, second_node_row, no_second_node_row, react_pointer_row, no_react_pointer_row, resist_parts_row, react_part_row, and_react_row, no_and_react_row, pair_rows_row, pair_row_row, no_pair_row_row, param_rows_row, param_row_row, no_param_row_row, more_strings_row, no_more_strings_row, real_param_row, integer_param_row, instance_param_row, model_param_row, opvar_row}
-use Rattle.c_law_print_parses.proofs.Listed.{row_list, name_list}
-use Rattle.c_law_print_parses.proofs.Pieces.{◌▹◌, Writes, Pieces, Shown, flat, fixed, named, part, ◌⋄◌, line, words, row_tree, row_written}
-use Rattle.c_law_print_parses.proofs.Names.{inst_word, nodes_word, entries_word, collapse_word, params_word}
-use Rattle.c_law_print_parses.proofs.Strings.{string_named}
+use Rattle.c_law_words.proofs.Listed.{row_list, name_list}
+use Rattle.c_law_words.proofs.Pieces.{◌▹◌, Writes, Pieces, Shown, flat, fixed, named, part, ◌⋄◌, line, words, row_tree, row_written}
+use Rattle.c_law_words.proofs.Names.{inst_word, nodes_word, entries_word, collapse_word, params_word}
+use Rattle.c_law_words.proofs.Strings.{string_named}
 use Rattle.c_law_print_parses.proofs.Atoms.{written_as, integer_part, integer_written, number_part, number_written, field_part, field_written}
 use Rattle.c_law_print_parses.proofs.Functions.{next_counted}
 

@@ -3,7 +3,7 @@ use Rattle.c_tree.specs.declared.file.CFile.{CFile}
 use Rattle.c_tree.specs.Spelling.{CanBeSpelled}
 use Rattle.c_tree.specs.Text.{words_of, text_of}
 use Rattle.c_syntax.specs.Syntax.{IsSyntax}
-use Rattle.c_law_print_parses.specs.Standing.{AreRead}
+use Rattle.c_law_words.specs.Standing.{AreRead}
 
 -- the tokens of a file's text are its words, in order
 abbrev pub PrintIsRead : Type 0

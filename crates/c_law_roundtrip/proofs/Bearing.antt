@@ -13,10 +13,10 @@ use Rattle.predict.proofs.Lists.{implied, passes_at}
 use Rattle.va_base.proofs.Tests.{and_false, or_left, or_right}
 use Rattle.c_tree.specs.Words.{Word}
 use Rattle.c_raw_build.specs.Words.{has_module_number, module_number}
-use Rattle.c_law_print_parses.specs.Kinds.{kind_of_word}
-use Rattle.c_law_print_parses.proofs.Derived.{Derives, Fit}
-use Rattle.c_law_print_parses.proofs.Listed.{row_list, name_list}
-use Rattle.c_law_print_parses.proofs.Pieces.{IsWord, Writes, Pieces, Piece, a_name, a_word, a_tree, words, words_of, flat, flat_same, match, fits, is_name, name_is, no_match}
+use Rattle.c_law_words.specs.Kinds.{kind_of_word}
+use Rattle.c_law_words.proofs.Derived.{Derives, Fit}
+use Rattle.c_law_words.proofs.Listed.{row_list, name_list}
+use Rattle.c_law_words.proofs.Pieces.{IsWord, Writes, Pieces, Piece, a_name, a_word, a_tree, words, words_of, flat, flat_same, match, fits, is_name, name_is, no_match}
 
 -- the module's number in a word, if it holds one, is this
 abbrev pub bears : ℕ → Word → Bool

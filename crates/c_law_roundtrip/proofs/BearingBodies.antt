@@ -29,9 +29,9 @@ use Rattle.c_law_print_parses.proofs.Atoms.{type_written, number_written, field_
 use Rattle.c_law_print_parses.proofs.Bodies.{first_value_written, no_first_value_written, field_target_written, flag_target_written, constant_pieces, set_instance_pieces, set_model_pieces, no_statements, arms_pieces, choice_pieces, break_pieces, leave_pieces, loop_pieces, loop_words, spells_block, four_parts, flat_spells}
 use Rattle.c_law_print_parses.proofs.Functions.{is_argument, arguments_written, instance_pieces, model_pieces, access_rows_written, found_pieces, found_words, static_pieces, function_pieces, one_function, functions_words, next_counted}
 use Rattle.c_law_print_parses.proofs.Lefts.{right_left, statement_left, if_rest_left, functions_left, function_or_access_left, instance_left, model_left}
-use Rattle.c_law_print_parses.proofs.Listed.{row_list, name_list}
-use Rattle.c_law_print_parses.proofs.Names as names
-use Rattle.c_law_print_parses.proofs.Pieces.{◌▹◌, line, ◌⋄◌}
+use Rattle.c_law_words.proofs.Listed.{row_list, name_list}
+use Rattle.c_law_words.proofs.Names as names
+use Rattle.c_law_words.proofs.Pieces.{◌▹◌, line, ◌⋄◌}
 use Rattle.c_law_roundtrip.proofs.Bearing.{all_bear, plain_bears, both_bear, word_bears, quiet, row_bears}
 use Rattle.c_law_roundtrip.proofs.BearingWords.{function_bears, model_bears, inst_bears, access_bears}
 

@@ -23,10 +23,10 @@ use Rattle.c_law_print_parses.proofs.Bodies.{no_statements}
 use Rattle.c_law_print_parses.proofs.Files.{TablesSpelled, BodiesSpelled, kinds_counted, descriptor_pieces, module_pieces, module_are}
 use Rattle.c_law_print_parses.proofs.Functions.{fields_written, array_counted, structs_pieces, next_counted}
 use Rattle.c_law_print_parses.proofs.Lefts.{structs_left, setup_model_left, setup_instance_left, eval_left, residual_resist_left, residual_react_left, jacobian_resist_left, jacobian_react_left, jacobian_tran_left, spice_rhs_dc_left, spice_rhs_tran_left, loads_left, node_rows_left, node_row_left, react_pointer_left, entry_rows_left, entry_row_left, tables_left, module_left, descriptors_left, descriptor_left}
-use Rattle.c_law_print_parses.proofs.Listed.{row_list, name_list}
+use Rattle.c_law_words.proofs.Listed.{row_list, name_list}
 use Rattle.c_law_print_parses.proofs.Loads.{reset_written, setup_model_pieces, setup_instance_pieces, eval_pieces, load_statements_written, load_function_pieces, loads_spelled, loads_parts, loads_pieces}
-use Rattle.c_law_print_parses.proofs.Pieces.{◌▹◌, line, part as piece, ◌⋄◌, row_tree, words}
-use Rattle.c_law_print_parses.proofs.Strings.{string_named}
+use Rattle.c_law_words.proofs.Pieces.{◌▹◌, line, part as piece, ◌⋄◌, row_tree, words}
+use Rattle.c_law_words.proofs.Strings.{string_named}
 use Rattle.c_law_print_parses.proofs.Tables.{node_pieces, nodes_tree, nodes_words, pair_written, pointer_pieces, parts_written, entry_pieces, entries_tree, entries_words, pairs_written, params_written, rows_next, table_pieces, tables_are, from_zero}
 use Rattle.c_law_roundtrip.proofs.Bearing.{bears, all_bear, plain_bears, quiet, row_bears}
 use Rattle.c_law_roundtrip.proofs.BearingBodies.{body_bears, instance_bears, casts_bear, functions_bear}

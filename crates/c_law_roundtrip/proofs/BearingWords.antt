@@ -7,8 +7,8 @@ use Rattle.c_tree.specs.Spelling.{is_unsigned}
 use Rattle.c_tree.specs.Text.{function_word, load_name}
 use Rattle.c_tree.specs.Words.{numbered}
 use Rattle.c_raw_build.specs.Words.{module_number}
-use Rattle.c_law_print_parses.proofs.Names as names
-use Rattle.c_law_print_parses.proofs.Values.{numbered_back, words_give_back}
+use Rattle.c_law_words.proofs.Names as names
+use Rattle.c_law_words.proofs.Values.{numbered_back, words_give_back}
 use Rattle.c_law_roundtrip.proofs.Bearing.{bears, number_bears}
 
 pub function_bears : (k j : ℕ) → is_unsigned k ≡ true → is_unsigned j ≡ true → bears k (function_word k j) ≡ true

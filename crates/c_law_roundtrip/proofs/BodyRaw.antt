@@ -23,8 +23,8 @@ use Rattle.c_law_print_parses.proofs.Atoms.{written_as, atom_tree, atom_written}
 use Rattle.c_law_print_parses.proofs.Bodies.{simple_tree, simple_written, no_statements, no_statements_written, before, before_written, arms_pieces, choice_pieces, choice_written, leave_pieces, leave_written, loop_pieces, loop_written, statements_tree, statements_written, spells_block, four_parts, flat_spells, loop_words, body_tree}
 use Rattle.c_law_print_parses.proofs.BodyValues.{simple_value, simple_alone, next_words, next_place}
 use Rattle.c_law_print_parses.proofs.Lefts.{statements_left}
-use Rattle.c_law_print_parses.proofs.Listed.{row_list}
-use Rattle.c_law_print_parses.proofs.Pieces.{Writes, row_tree}
+use Rattle.c_law_words.proofs.Listed.{row_list}
+use Rattle.c_law_words.proofs.Pieces.{Writes, row_tree}
 use Rattle.c_law_print_parses.proofs.Placing.{StandsAt, stands_moved, stands_split, row_stands, written_width}
 use Rattle.c_law_form_ignores_places.specs.Forget.{forget_simple, forget_block}
 use Rattle.c_law_roundtrip.proofs.Kept.{simple_kept}

@@ -19,16 +19,16 @@ use Rattle.c_raw_build.specs.Placed.{width}
 use Rattle.c_raw_build.specs.RawFiles as parts
 use Rattle.c_raw_build.specs.RawFiles.{fields}
 use Rattle.c_raw_build.specs.Words.{CText, field_lettered, field_at}
-use Rattle.c_law_print_parses.specs.Values.{field_in}
+use Rattle.c_law_words.specs.Values.{field_in}
 use Rattle.c_law_print_parses.proofs.AtomValues.{placed, type_value}
 use Rattle.c_law_print_parses.proofs.Atoms.{type_tree, type_written}
 use Rattle.c_law_print_parses.proofs.Functions.{field_row_pieces, fields_tree, fields_written}
 use Rattle.c_law_print_parses.proofs.Lefts.{fields_left}
-use Rattle.c_law_print_parses.proofs.Listed.{row_list}
-use Rattle.c_law_print_parses.proofs.Pieces.{◌▹◌, part as piece, ◌⋄◌}
+use Rattle.c_law_words.proofs.Listed.{row_list}
+use Rattle.c_law_words.proofs.Pieces.{◌▹◌, part as piece, ◌⋄◌}
 use Rattle.c_law_print_parses.proofs.Placing.{StandsAt, row_stands}
-use Rattle.c_law_print_parses.proofs.Strings.{field_row_named}
-use Rattle.c_law_print_parses.proofs.Values.{field_split, no_first, number_text_back}
+use Rattle.c_law_words.proofs.Strings.{field_row_named}
+use Rattle.c_law_words.proofs.Values.{field_split, no_first, number_text_back}
 use Rattle.c_law_form_ignores_places.specs.Forget.{forget_field}
 
 -- a name of these letters names the field with its number

@@ -23,15 +23,15 @@ use Rattle.c_law_print_parses.proofs.Atoms.{written_as, number_written}
 use Rattle.c_law_print_parses.proofs.Files.{TablesSpelled, tables_spelled, BodiesSpelled, bodies_spelled, kinds_counted, descriptor_pieces, descriptors_words, descriptors_tree, descriptors_written, descriptor_shown, exports_pieces, exports_are, exports_written, module_pieces, module_tree, module_shown, module_are, module_fits, modules_words, modules_tree, modules_written, file_pieces, file_tree, help_tree, help_written, osdi_word, math_word, stddef_word, stdint_word, stdlib_word}
 use Rattle.c_law_print_parses.proofs.Functions.{array_counted, functions_words, functions_tree, structs_pieces, structs_tree, structs_shown, next_counted}
 use Rattle.c_law_print_parses.proofs.Lefts.{descriptors_left, module_left, modules_left}
-use Rattle.c_law_print_parses.proofs.Listed.{row_list}
+use Rattle.c_law_words.proofs.Listed.{row_list}
 use Rattle.c_law_print_parses.proofs.Loads.{setup_model_tree, setup_instance_tree, eval_tree, loads_tree}
-use Rattle.c_law_print_parses.proofs.Names as names
-use Rattle.c_law_print_parses.proofs.Pieces.{◌▹◌, part as piece, ◌⋄◌, Piece, a_name, a_word, a_tree, words, flat, flat_same, Shown}
-use Rattle.c_law_print_parses.proofs.Pieces as pieces
+use Rattle.c_law_words.proofs.Names as names
+use Rattle.c_law_words.proofs.Pieces.{◌▹◌, part as piece, ◌⋄◌, Piece, a_name, a_word, a_tree, words, flat, flat_same, Shown}
+use Rattle.c_law_words.proofs.Pieces as pieces
 use Rattle.c_law_print_parses.proofs.Placing.{StandsAt, stands_as, row_stands, written_width}
 use Rattle.c_law_print_parses.proofs.Tables.{table_pieces, tables_tree, tables_are, four_shown, from_zero}
 use Rattle.c_law_print_parses.proofs.TableValues.{string_value}
-use Rattle.c_law_print_parses.proofs.Values.{unsigned_back}
+use Rattle.c_law_words.proofs.Values.{unsigned_back}
 use Rattle.c_law_form_ignores_places.specs.Forget.{forget_field, forget_sizes, forget_node, forget_entry, forget_pair, forget_param, forget_module, forget_descriptor, forget, once_in_module, once_in_descriptor, numbered_once}
 use Rattle.c_law_roundtrip.proofs.FieldNames.{fields_raw}
 use Rattle.c_law_roundtrip.proofs.FunctionRaw.{functions_raw, access_raw}

@@ -18,11 +18,11 @@ use Rattle.c_law_print_parses.proofs.Atoms.{type_tree, type_written, atom_tree, 
 use Rattle.c_law_print_parses.proofs.Bodies.{body_tree, body_written}
 use Rattle.c_law_print_parses.proofs.Functions.{is_argument, arguments_tree, arguments_written, function_pieces, functions_words, functions_tree, functions_written, next_counted}
 use Rattle.c_law_print_parses.proofs.FunctionValues.{arguments_value, found_value}
-use Rattle.c_law_print_parses.proofs.Listed.{row_list}
-use Rattle.c_law_print_parses.proofs.Names.{module_function_word}
-use Rattle.c_law_print_parses.proofs.Pieces.{◌▹◌}
+use Rattle.c_law_words.proofs.Listed.{row_list}
+use Rattle.c_law_words.proofs.Names.{module_function_word}
+use Rattle.c_law_words.proofs.Pieces.{◌▹◌}
 use Rattle.c_law_print_parses.proofs.Placing.{StandsAt, row_stands}
-use Rattle.c_law_print_parses.proofs.Values.{function_back}
+use Rattle.c_law_words.proofs.Values.{function_back}
 use Rattle.c_law_form_ignores_places.specs.Forget.{forget_function, forget_access}
 use Rattle.c_law_roundtrip.proofs.Kept.{raw_argument, arguments_kept, rows_kept}
 use Rattle.c_law_roundtrip.proofs.BodyRaw.{body_raw}

@@ -15,11 +15,11 @@ use Rattle.c_raw_build.specs.Words.{CText}
 use Rattle.c_law_print_parses.proofs.AtomValues.{placed}
 use Rattle.c_law_print_parses.proofs.Bodies.{body_written}
 use Rattle.c_law_print_parses.proofs.Functions.{instance_written, model_written}
-use Rattle.c_law_print_parses.proofs.Listed.{row_list}
+use Rattle.c_law_words.proofs.Listed.{row_list}
 use Rattle.c_law_print_parses.proofs.Loads.{reset_written, setup_model_pieces, setup_model_tree, setup_instance_pieces, setup_instance_tree, eval_pieces, eval_tree, loads_tree, loads_spelled}
 use Rattle.c_law_print_parses.proofs.LoadValues.{loads_value}
-use Rattle.c_law_print_parses.proofs.Names as names
-use Rattle.c_law_print_parses.proofs.Pieces.{◌▹◌}
+use Rattle.c_law_words.proofs.Names as names
+use Rattle.c_law_words.proofs.Pieces.{◌▹◌}
 use Rattle.c_law_print_parses.proofs.Placing.{StandsAt, row_stands}
 use Rattle.c_law_form_ignores_places.specs.Forget.{forget_block, forget_loads}
 use Rattle.c_law_roundtrip.proofs.Kept.{loads_kept}

@@ -15,8 +15,8 @@ use Rattle.c_syntax.specs.grammar.Kinds.{kind_of, kind_in}
 use Rattle.c_syntax.proofs.Longest.{cond_true, cond_false}
 use Rattle.c_raw_build.specs.Placed.{width}
 use Rattle.c_raw_build.specs.Words.{CText, word_of, has_module_number, module_number, module_numbers_of, module_numbers}
-use Rattle.c_law_print_parses.specs.Kinds.{kind_of_word}
-use Rattle.c_law_print_parses.proofs.Pieces.{Pieces, Piece, a_name, a_word, a_tree, words, words_of, flat, flat_same, Shown}
+use Rattle.c_law_words.specs.Kinds.{kind_of_word}
+use Rattle.c_law_words.proofs.Pieces.{Pieces, Piece, a_name, a_word, a_tree, words, words_of, flat, flat_same, Shown}
 use Rattle.c_law_print_parses.proofs.Placing.{StandsAt, written_width}
 use Rattle.c_law_form_ignores_places.specs.Forget.{forget_at, once}
 use Rattle.c_law_roundtrip.proofs.Bearing.{bears, all_bear}

@@ -7,10 +7,10 @@ use Rattle.c_tree.specs.Text.{words_of}
 use Rattle.c_tree.specs.Words.{spelled}
 use Rattle.c_tree.specs.tokens.Tokens.{c_tokens_of}
 use Rattle.c_raw_build.specs.Words.{CText}
-use Rattle.c_law_print_parses.specs.Standing.{tokens_of_words}
+use Rattle.c_law_words.specs.Standing.{tokens_of_words}
 use Rattle.c_law_print_parses.proofs.Files.{file_tree}
 use Rattle.c_law_print_parses.proofs.Printed.{text_is, print_is_read, text_sentence}
-use Rattle.c_law_print_parses.proofs.Reading.{read_words}
+use Rattle.c_law_words.proofs.Reading.{read_words}
 use Rattle.c_law_print_parses.proofs.Standing.{text_with}
 use Rattle.c_law_form_ignores_places.specs.Forget.{forget, numbered_once}
 use Rattle.c_law_form_ignores_places.proofs.Files.{form_of_trees}

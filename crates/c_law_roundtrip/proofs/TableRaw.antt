@@ -23,14 +23,14 @@ use Rattle.c_law_print_parses.proofs.AtomValues.{placed, field_value}
 use Rattle.c_law_print_parses.proofs.Atoms.{number_tree, number_written, integer_written, field_written}
 use Rattle.c_law_print_parses.proofs.Functions.{next_counted}
 use Rattle.c_law_print_parses.proofs.Lefts.{node_rows_left, entry_rows_left, param_rows_left}
-use Rattle.c_law_print_parses.proofs.Listed.{row_list}
-use Rattle.c_law_print_parses.proofs.Names.{inst_word}
-use Rattle.c_law_print_parses.proofs.Pieces.{◌▹◌, Writes, part as piece, ◌⋄◌, row_tree}
+use Rattle.c_law_words.proofs.Listed.{row_list}
+use Rattle.c_law_words.proofs.Names.{inst_word}
+use Rattle.c_law_words.proofs.Pieces.{◌▹◌, Writes, part as piece, ◌⋄◌, row_tree}
 use Rattle.c_law_print_parses.proofs.Placing.{StandsAt, row_stands}
-use Rattle.c_law_print_parses.proofs.Strings.{string_named}
+use Rattle.c_law_words.proofs.Strings.{string_named}
 use Rattle.c_law_print_parses.proofs.TableValues.{string_value, second_value, pairs_value, resist_value, react_value, more_strings_value, param_type_value, param_kind_value}
 use Rattle.c_law_print_parses.proofs.Tables.{node_pieces, nodes_words, nodes_tree, nodes_written, second_written, pair_pieces, pair_written, rows_words, rows_next, pairs_tree, pointer_tree, pointer_written, parts_written, entry_pieces, entries_words, entries_tree, entries_written, more_strings_tree, more_strings_written, param_type_tree, param_type_written, param_kind_tree, param_kind_written, param_pieces, param_words, param_tree, params_tree, params_written, parameter_is, aliases_counted}
-use Rattle.c_law_print_parses.proofs.Values.{integer_back, unsigned_back}
+use Rattle.c_law_words.proofs.Values.{integer_back, unsigned_back}
 use Rattle.c_raw_build.specs.RowNumbers.{pair_row as pair_number}
 use Rattle.c_law_form_ignores_places.specs.Forget.{forget_node, forget_pair, forget_entry, forget_param}
 use Rattle.c_law_roundtrip.proofs.Kept.{pairs_kept}

@@ -13,8 +13,8 @@ use Rattle.c_raw_build.specs.RawAtoms.{number_of_tree, field, cell, node_number,
 use Rattle.c_raw_build.specs.RowNumbers.{instance_cell_row, model_cell_row, numbered_field_row, temperature_field_row, negated_row, contrary_row, converted_row, called_row, operands_row, to_real_row, to_integer_row, named_function_row, module_function_row, values_row, more_values_row, operation_row, no_operation_row, local_atom_row, argument_atom_row, integer_atom_row, real_atom_row, cell_atom_row, unknown_atom_row, node_row, integer_zero_row, integer_one_row, integer_row, number_zero_row, number_one_row, number_three_row, number_row}
 use Rattle.c_raw_build.specs.Words.{CText, word_at, number_at, function_at, real_at, field_at, library_function_at}
 use Rattle.c_law_print_parses.proofs.Lefts.{cell_left, field_name_left, right_left, conversion_left, callee_left, values_left, operation_left, atom_left, node_left, integer_left, number_left}
-use Rattle.c_law_print_parses.proofs.Listed.{row_list}
-use Rattle.c_law_print_parses.proofs.Pieces.{◌▹◌}
+use Rattle.c_law_words.proofs.Listed.{row_list}
+use Rattle.c_law_words.proofs.Pieces.{◌▹◌}
 use Rattle.c_law_spelled.proofs.Rows.{IsOf, IsRow, sub, tok, by_rows, passes_map_map, elements_two_rows}
 use Rattle.c_law_spelled.proofs.Numbers.{unsigned_value, integer_value, real_value}
 use Rattle.c_law_spelled.proofs.Names.{name_value, function_value, field_value, temp_value, library_value}

@@ -15,9 +15,9 @@ use Rattle.c_tree.specs.tokens.Spelling.{is_token}
 use Rattle.c_raw_build.specs.Placed.{Placed, width, width_of, is_of, parts_of, subtree_at, part, has_subtree, spine, spine_of, elements, before_first, elements_before}
 use Rattle.c_raw_build.specs.RowNumbers.{modules_row, module_row, structs_row}
 use Rattle.c_raw_build.specs.Words.{CText, word_of, word_at}
-use Rattle.c_law_print_parses.proofs.Derived.{Derives, Fit}
+use Rattle.c_law_words.proofs.Derived.{Derives, Fit}
 use Rattle.c_law_print_parses.proofs.Lefts.{modules_left, module_left, structs_left}
-use Rattle.c_law_print_parses.proofs.Listed.{row_list}
+use Rattle.c_law_words.proofs.Listed.{row_list}
 use Rattle.c_law_spelled.proofs.Rows.{KindsAt, tree_width, parts_width, tree_split, symbols_in, IsOf, IsRow, sub, by_rows, known_row}
 
 -- where a word stands, a token does

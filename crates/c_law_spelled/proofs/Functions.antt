@@ -15,8 +15,8 @@ use Rattle.c_raw_build.specs.RawTables.{matrix_target, target_of, factor_of, pla
 use Rattle.c_raw_build.specs.RowNumbers.{fields_row, function_row, access_row as access_function_row, arguments_row, more_arguments_row, access_rows_row, flag_setting_row, no_flag_setting_row, load_row, node_target_row, matrix_target_row, resist_target_row, react_target_row, alpha_row, cell_factor_row, solution_factor_row, more_factors_row}
 use Rattle.c_raw_build.specs.Words.{CText, word_at, number_at, field_at}
 use Rattle.c_law_print_parses.proofs.Lefts.{fields_left, functions_left, arguments_left, flag_setting_left, cell_left, field_name_left, statements_left, atom_left, node_left, number_left, load_statements_left, load_target_left, matrix_target_left, factor_left, more_factors_left}
-use Rattle.c_law_print_parses.proofs.Listed.{row_list}
-use Rattle.c_law_print_parses.proofs.Pieces.{◌▹◌}
+use Rattle.c_law_words.proofs.Listed.{row_list}
+use Rattle.c_law_words.proofs.Pieces.{◌▹◌}
 use Rattle.c_law_spelled.proofs.Rows.{IsOf, IsRow, sub, behind, by_rows, passes_map_map, elements_rows, elements_two_rows, elements_before_rows}
 use Rattle.c_law_spelled.proofs.Names.{name_value, field_name_value}
 use Rattle.c_law_spelled.proofs.Atoms.{first_place, number_spelled, field_spelled, cell_spelled, node_spelled, atom_spelled}

@@ -15,7 +15,7 @@ use Rattle.c_raw_build.specs.RawTables.{loads}
 use Rattle.c_raw_build.specs.RowNumbers.{modules_row, module_row, structs_row, function_row, access_row, setup_model_row, setup_instance_row, eval_row, loads_row, residual_resist_row, residual_react_row, jacobian_resist_row, jacobian_react_row, jacobian_tran_row, spice_rhs_dc_row, spice_rhs_tran_row, tables_row}
 use Rattle.c_raw_build.specs.Words.{CText}
 use Rattle.c_law_print_parses.proofs.Lefts.{modules_left, module_left, structs_left, fields_left, functions_left, setup_model_left, setup_instance_left, eval_left, statements_left, loads_left, residual_resist_left, residual_react_left, jacobian_resist_left, jacobian_react_left, jacobian_tran_left, spice_rhs_dc_left, spice_rhs_tran_left, load_statements_left, tables_left, node_rows_left, entry_rows_left, pair_rows_left, param_rows_left}
-use Rattle.c_law_print_parses.proofs.Listed.{row_list}
+use Rattle.c_law_words.proofs.Listed.{row_list}
 use Rattle.c_law_spelled.proofs.Rows.{IsOf, IsRow, sub, only_row, each_map, each_passes, elements_rows}
 use Rattle.c_law_spelled.proofs.Statements.{body_blocks, body_spelled}
 use Rattle.c_law_spelled.proofs.Functions.{fields_spelled, functions_spelled, accesses_spelled, loads_spelled}
@@ -24,7 +24,7 @@ use Rattle.c_law_spelled.proofs.Counts.{counted_map, functions_counted, modules_
 use Rattle.c_law_spelled.specs.Spelled.{has_counted_lists}
 use Rattle.c_tree.specs.declared.table.ParamRow.{ParamRow}
 use Rattle.std.proofs.lemmas.Bool.{and_parts}
-use Rattle.c_law_print_parses.proofs.Pieces.{◌▹◌}
+use Rattle.c_law_words.proofs.Pieces.{◌▹◌}
 
 -- what is asked of each module
 pub record IsFine (m : CModule) : Type 0 where

@@ -22,12 +22,12 @@ use Rattle.c_tree.specs.tokens.Spelling.{token_kind}
 use Rattle.c_syntax.specs.grammar.Names.{word_names, place_of}
 use Rattle.c_syntax.specs.grammar.Kinds.{is_number_in_name, is_second_number, is_no_digit, numbered_names, numbered_kinds, kind_with_place, numbered_kind, function_names, kind_from, plain_word_kind, kind_of}
 use Rattle.c_raw_build.specs.Words.{second_number, letters_of, field_lettered, library_functions}
-use Rattle.c_law_print_parses.proofs.Digits.{IsDecimal, decimal_written}
-use Rattle.c_law_print_parses.specs.Values.{field_in, library_function}
+use Rattle.c_law_words.proofs.Digits.{IsDecimal, decimal_written}
+use Rattle.c_law_words.specs.Values.{field_in, library_function}
 use Rattle.c_law_spelled.proofs.Rows.{IsOfKind}
 use Rattle.c_law_spelled.proofs.WordKinds.{place_holds, got_passes, may_have, all_kinds, token_is, is_plain_kind, plain_kind, is_numbered_kind, numbered_has, numbered_cases, listed_kind}
 use Rattle.c_law_spelled.proofs.Numbers.{front_all, digits_behind, name_number}
-use Rattle.c_law_print_parses.proofs.Pieces.{◌▹◌}
+use Rattle.c_law_words.proofs.Pieces.{◌▹◌}
 
 -- a word's kind, where it is one of a name with a number
 numbered_found : (k : ℕ) (w : Word) → token_kind w ≡ OfWord → is_plain_kind k ≡ false → IsOfKind k w

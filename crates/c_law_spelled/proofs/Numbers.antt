@@ -21,8 +21,8 @@ use Rattle.c_tree.specs.tokens.Tokens.{begins}
 use Rattle.c_syntax.specs.grammar.Kinds.{is_number_in_name, is_no_digit}
 use Rattle.c_syntax.proofs.Longest.{cond_true, cond_false}
 use Rattle.c_raw_build.specs.Words.{number_zero}
-use Rattle.c_law_print_parses.proofs.Digits.{front_taken}
-use Rattle.c_law_print_parses.proofs.Numbers.{weaker}
+use Rattle.c_law_words.proofs.Digits.{front_taken}
+use Rattle.c_law_words.proofs.Numbers.{weaker}
 use Rattle.c_law_spelled.proofs.Rows.{IsOfKind}
 use Rattle.c_law_spelled.proofs.WordKinds.{may_have, all_kinds, token_is}
 

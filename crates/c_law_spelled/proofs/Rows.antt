@@ -18,8 +18,8 @@ use Rattle.c_tree.specs.tokens.Tokens.{begins}
 use Rattle.c_syntax.specs.grammar.Kinds.{kind_of}
 use Rattle.c_raw_build.specs.Placed.{Placed, width, width_of, end, row_of, is_of, parts_of, subtree_at, part, has_subtree, spine, spine_of, elements, elements_of_two, before_first, elements_before}
 use Rattle.c_raw_build.specs.Words.{CText, word_at}
-use Rattle.c_law_print_parses.proofs.Derived.{Derives, Fit}
-use Rattle.c_law_print_parses.proofs.Listed.{row_list}
+use Rattle.c_law_words.proofs.Derived.{Derives, Fit}
+use Rattle.c_law_words.proofs.Listed.{row_list}
 
 -- A word that is a token of this kind; a number is within the limits.
 pub record IsOfKind (k : ℕ) (w : Word) : Type 0 where

@@ -13,7 +13,7 @@ use Rattle.c_raw_build.specs.RawFiles.{file}
 use Rattle.c_raw_build.specs.RowNumbers.{file_row, exports_row}
 use Rattle.c_raw_build.specs.Words.{CText}
 use Rattle.c_law_print_parses.proofs.Lefts.{file_left, modules_left, exports_left, descriptors_left}
-use Rattle.c_law_print_parses.proofs.Listed.{row_list}
+use Rattle.c_law_words.proofs.Listed.{row_list}
 use Rattle.c_law_spelled.proofs.Rows.{IsOf, sub, only_row, each_both, each_told, each_weaker, each_passes}
 use Rattle.c_law_spelled.proofs.Tokens.{text_of, sentence_tree, tokens_few}
 use Rattle.c_law_spelled.proofs.Tables.{DescriptorFits, descriptors_fit}

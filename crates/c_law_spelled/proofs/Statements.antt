@@ -22,10 +22,10 @@ use Rattle.c_raw_build.specs.RawAtoms.{field, placed_atom}
 use Rattle.c_raw_build.specs.RawBodies.{declared, Target, of_field, of_pair, instance_target, set_target, simple_of, block_of, statement, if_rest, body_block}
 use Rattle.c_raw_build.specs.RowNumbers.{statements_row, no_statements_row, constant_row, declared_row, assigned_row, if_row, for_row, set_model_row, set_instance_row, report_row, first_value_row, no_first_value_row, break_row, two_arms_row, field_target_row, collapse_target_row}
 use Rattle.c_raw_build.specs.Words.{CText, word_at}
-use Rattle.c_law_print_parses.proofs.Derived.{Fit}
+use Rattle.c_law_words.proofs.Derived.{Fit}
 use Rattle.c_law_print_parses.proofs.Lefts.{field_name_left, statements_left, statement_left, first_value_left, if_rest_left, instance_target_left, right_left, atom_left, number_left}
-use Rattle.c_law_print_parses.proofs.Listed.{row_list}
-use Rattle.c_law_print_parses.proofs.Pieces.{◌▹◌}
+use Rattle.c_law_words.proofs.Listed.{row_list}
+use Rattle.c_law_words.proofs.Pieces.{◌▹◌}
 use Rattle.c_law_spelled.proofs.Rows.{IsOf, IsRow, symbols_in, sub, tok, behind, by_rows}
 use Rattle.c_law_spelled.proofs.Names.{name_value}
 use Rattle.c_law_spelled.proofs.Atoms.{first_place, number_spelled, field_spelled, atom_spelled, right_spelled}

@@ -21,8 +21,8 @@ use Rattle.c_syntax.specs.grammar.Sets.{c_grammar, c_rules}
 use Rattle.c_syntax.proofs.Longest.{drop-drop}
 use Rattle.c_syntax.proofs.Tables.{row_written}
 use Rattle.c_raw_build.specs.Words.{CText, word_of, word_at}
-use Rattle.c_law_print_parses.proofs.Derived.{Derives, Fit}
-use Rattle.c_law_print_parses.proofs.Listed.{rows_same}
+use Rattle.c_law_words.proofs.Derived.{Derives, Fit}
+use Rattle.c_law_words.proofs.Listed.{rows_same}
 use Rattle.c_law_spelled.proofs.Rows.{IsOfKind, KindsAt, IsOf}
 
 -- a token of a text

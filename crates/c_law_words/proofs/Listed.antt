@@ -12,9 +12,9 @@ use Rattle.c_syntax.specs.grammar.Kinds.{numbered_names, function_names}
 use Rattle.c_syntax.proofs.Tables.{row_numbers}
 use Rattle.va_base.specs.Spelling.{is_numeral}
 use Rattle.va_base.specs.Numerals.{decimal_of, value_of, number_of, digit_count}
-use Rattle.c_law_print_parses.specs.Standing.{is_alone}
-use Rattle.c_law_print_parses.specs.Kinds.{kind_of_word}
-use Rattle.c_law_print_parses.proofs.Derived.{no_clash}
+use Rattle.c_law_words.specs.Standing.{is_alone}
+use Rattle.c_law_words.specs.Kinds.{kind_of_word}
+use Rattle.c_law_words.proofs.Derived.{no_clash}
 
 -- the nonterminal of each row
 abbrev pub lefts : List ℕ

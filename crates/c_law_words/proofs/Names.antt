@@ -21,11 +21,11 @@ use Rattle.c_tree.specs.tokens.Tokens.{begins}
 use Rattle.c_syntax.specs.grammar.Names.{word_names, place_of}
 use Rattle.c_syntax.specs.grammar.Kinds.{is_no_digit, is_number_in_name, is_second_number, are_two_numbers, numbered_names, numbered_kinds, kind_with_place, numbered_kind, function_names, plain_word_kind, word_kind, kind_of}
 use Rattle.c_syntax.proofs.Longest.{cond_true, cond_false}
-use Rattle.c_law_print_parses.specs.Standing.{is_alone}
-use Rattle.c_law_print_parses.specs.Kinds.{kind_of_word}
-use Rattle.c_law_print_parses.proofs.Digits.{decimal_written, front_taken, front_dropped}
-use Rattle.c_law_print_parses.proofs.Numbers.{weaker, name_number}
-use Rattle.c_law_print_parses.proofs.Pieces.{IsWord}
+use Rattle.c_law_words.specs.Standing.{is_alone}
+use Rattle.c_law_words.specs.Kinds.{kind_of_word}
+use Rattle.c_law_words.proofs.Digits.{decimal_written, front_taken, front_dropped}
+use Rattle.c_law_words.proofs.Numbers.{weaker, name_number}
+use Rattle.c_law_words.proofs.Pieces.{IsWord}
 
 letter_no_digit : (c : ℕ) → is_letter c ≡ true → is_digit c ≡ false
 letter_no_digit c e = grind (arith, nat_tests)

@@ -16,9 +16,9 @@ use Rattle.c_tree.specs.Words.{template, stands_as_itself, string_byte, string_w
 use Rattle.c_tree.specs.tokens.Spelling.{is_plain, is_escape, is_string_rest}
 use Rattle.c_syntax.proofs.Longest.{cond_true, cond_false}
 use Rattle.c_syntax.specs.grammar.Kinds.{is_number_in_name, numbered_names}
-use Rattle.c_law_print_parses.proofs.Numbers.{at_most}
-use Rattle.c_law_print_parses.proofs.Names.{is_numbered, numbered_word}
-use Rattle.c_law_print_parses.proofs.Pieces.{IsWord}
+use Rattle.c_law_words.proofs.Numbers.{at_most}
+use Rattle.c_law_words.proofs.Names.{is_numbered, numbered_word}
+use Rattle.c_law_words.proofs.Pieces.{IsWord}
 
 -- a test on each number below some number
 abbrev pub all_below : ℕ → (ℕ → Bool) → Bool

@@ -17,8 +17,8 @@ use Rattle.c_tree.specs.tokens.Spelling.{is_separator, is_in_line, is_token, tok
 use Rattle.c_tree.specs.tokens.Limits.{is_within}
 use Rattle.c_tree.specs.tokens.Tokens.{limited, front_len, token_at, token_before, tokens_at, less_one, tokens_from, bytes_of}
 use Rattle.c_syntax.proofs.Longest.{cond_true, cond_false, no_left, no_right}
-use Rattle.c_law_print_parses.specs.Standing.{is_alone, tokens_of_words, WordsAreRead}
-use Rattle.c_law_print_parses.proofs.Separate.{Separates, token_stops}
+use Rattle.c_law_words.specs.Standing.{is_alone, tokens_of_words, WordsAreRead}
+use Rattle.c_law_words.proofs.Separate.{Separates, token_stops}
 
 -- the second of two bytes
 abbrev is_second : ℕ → List ℕ → Bool

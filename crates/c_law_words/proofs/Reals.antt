@@ -16,9 +16,9 @@ use Rattle.c_tree.specs.tokens.Limits.{is_plain_power, is_plain_negative}
 use Rattle.c_tree.specs.tokens.Tokens.{begins}
 use Rattle.c_syntax.proofs.Longest.{cond_false}
 use Rattle.c_syntax.specs.grammar.Kinds.{kind_of}
-use Rattle.c_law_print_parses.proofs.Digits.{IsDecimal, is_nonzero, decimal_written}
-use Rattle.c_law_print_parses.proofs.Numbers.{digits_are, number_alone, numeral, value_found}
-use Rattle.c_law_print_parses.proofs.Pieces.{IsWord}
+use Rattle.c_law_words.proofs.Digits.{IsDecimal, is_nonzero, decimal_written}
+use Rattle.c_law_words.proofs.Numbers.{digits_are, number_alone, numeral, value_found}
+use Rattle.c_law_words.proofs.Pieces.{IsWord}
 
 -- the power of ten behind an `e`
 record PowerWritten (rest : List ℕ) (power : ℤ) : Type 0 where

@@ -18,8 +18,8 @@ use Rattle.c_tree.specs.tokens.Limits.{has_no_leading_zero, is_at_most, is_tail_
 use Rattle.c_tree.specs.tokens.Tokens.{begins}
 use Rattle.c_syntax.proofs.Longest.{cond_true, cond_false}
 use Rattle.c_syntax.specs.grammar.Kinds.{is_number_in_name}
-use Rattle.c_law_print_parses.specs.Standing.{is_alone}
-use Rattle.c_law_print_parses.proofs.Digits.{decimal_written, front_passes, front_taken, front_dropped}
+use Rattle.c_law_words.specs.Standing.{is_alone}
+use Rattle.c_law_words.proofs.Digits.{decimal_written, front_passes, front_taken, front_dropped}
 
 digit_no_letter : (c : ℕ) → is_digit c ≡ true → is_letter c ≡ false
 digit_no_letter c e = grind (arith, nat_tests)

@@ -30,11 +30,11 @@ use Rattle.c_tree.specs.tokens.Tokens.{begins}
 use Rattle.c_syntax.proofs.Longest.{cond_true, cond_false}
 use Rattle.c_syntax.specs.grammar.Kinds.{is_no_digit, function_names}
 use Rattle.c_raw_build.specs.Words.{octal, string_bytes, between_quotes, first_number, second_number, field_lettered}
-use Rattle.c_law_print_parses.specs.Values.{field_in, library_function, WordsGiveBack}
-use Rattle.c_law_print_parses.proofs.Pieces.{◌▹◌}
-use Rattle.c_law_print_parses.proofs.Digits.{IsDecimal, decimal_written, front_taken, front_dropped}
-use Rattle.c_law_print_parses.proofs.Reals.{real_value}
-use Rattle.c_law_print_parses.proofs.Strings.{all_below, below_told, not_is}
+use Rattle.c_law_words.specs.Values.{field_in, library_function, WordsGiveBack}
+use Rattle.c_law_words.proofs.Pieces.{◌▹◌}
+use Rattle.c_law_words.proofs.Digits.{IsDecimal, decimal_written, front_taken, front_dropped}
+use Rattle.c_law_words.proofs.Reals.{real_value}
+use Rattle.c_law_words.proofs.Strings.{all_below, below_told, not_is}
 
 written : (n : ℕ) → is_unsigned n ≡ true → IsDecimal n (decimal n)
 written n h = let less : n < 2 ^ 32 = ltb-true n (2 ^ 32) h in decimal_written n (omega (arith, less))

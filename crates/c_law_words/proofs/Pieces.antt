@@ -13,10 +13,10 @@ use Rattle.predict.specs.Tree.{Tree, Parts, node, no_parts, token, subtree, spel
 use Rattle.predict.specs.FirstFit.{Written}
 use Rattle.predict.proofs.Lists.{implied, each_told}
 use Rattle.c_tree.specs.Words.{Word, template}
-use Rattle.c_law_print_parses.specs.Standing.{is_alone}
-use Rattle.c_law_print_parses.specs.Kinds.{kind_of_word}
-use Rattle.c_law_print_parses.proofs.Derived.{Derives, Fit}
-use Rattle.c_law_print_parses.proofs.Listed.{row_list, name_list, name_alone, names_alone}
+use Rattle.c_law_words.specs.Standing.{is_alone}
+use Rattle.c_law_words.specs.Kinds.{kind_of_word}
+use Rattle.c_law_words.proofs.Derived.{Derives, Fit}
+use Rattle.c_law_words.proofs.Listed.{row_list, name_list, name_alone, names_alone}
 
 -- a word of this kind that stands for itself
 pub record IsWord (kind : ℕ) (w : Word) : Type 0 where

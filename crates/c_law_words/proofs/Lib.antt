@@ -1,0 +1,11 @@
+pub mod Separate
+pub mod Reading
+pub mod Derived
+pub mod Listed
+pub mod Pieces
+pub mod Digits
+pub mod Numbers
+pub mod Names
+pub mod Reals
+pub mod Strings
+pub mod Values
