@@ -1,6 +1,6 @@
 -- What is due where the tables of a C file are asked for.
 use Rattle.std.proofs.Common.{◌≡◌, ◌<◌, ◌≤◌, ◌+◌, ◌++◌, ℕ, List, [], ◌∷◌, length, nat_lt, refl, sym, ap, ◌∙◌, subst, ◌⊎◌, inl, inr, arith, ltb-true, ltb-false}
-use Rattle.std.specs.Prelude.{Bool, true, false, Option, Some, None, Result, Ok, Err, codes, take}
+use Rattle.std.specs.Prelude.{Bool, true, false, Option, Some, None, Result, Ok, Err, take}
 use Rattle.std.proofs.lemmas.List.{append-nil, length-take, take_all}
 use Rattle.alg_laws.specs.Operations.{Operations}
 use Rattle.va_base.specs.declared.fault.FaultCode.{FaultCode}
@@ -24,6 +24,7 @@ use Rattle.va_command.specs.declared.status.Status.{Status}
 use Rattle.va_command.specs.declared.status.Status.TheVariants.{Done, Refused, Usage, NoFile, ReadFault, WriteFault, NoMemory}
 use Rattle.va_command.specs.Requests.{read, AsksFirst}
 use Rattle.va_command.specs.Answers.{IsDueFor}
+use Rattle.va_report.specs.Reasons.{no_such_file_line, read_fault_line}
 use Rattle.va_command.specs.CFiles.{most_bytes, IsReaderFault, IsCFault, IsCFileOf, IsDueOfBytes, IsDueOfText, IsAnswered, c_fault_line}
 
 -- the answer of the reader is a fault of the bytes
@@ -101,12 +102,12 @@ module _ {V : Type 0} (o : Operations V) (valid : V → Type 0) (holds : Option 
 
   -- there is no such file
   pub due_lacking : (status : Status) (text : List ℕ) → (Lacks holds file ⊎ CountsFault files) → AsksFor files (file ∷ [])
-      → (status ≡ NoFile) × (text ≡ file ++ codes ": no such file\n") → IsDueFor holds files o valid (read file) status text
+      → (status ≡ NoFile) × (text ≡ no_such_file_line file) → IsDueFor holds files o valid (read file) status text
   due_lacking status text a asks d = subst (λ s. IsDueFor holds files o valid (read file) s text) (sym d.0) ((a, asks), d.1)
 
   -- its read failed
   pub due_failing : (status : Status) (text : List ℕ) → CountsFault files → AsksFor files (file ∷ [])
-      → (status ≡ ReadFault) × (text ≡ file ++ codes ": read fault\n") → IsDueFor holds files o valid (read file) status text
+      → (status ≡ ReadFault) × (text ≡ read_fault_line file) → IsDueFor holds files o valid (read file) status text
   due_failing status text a asks d =
       subst (λ s. IsDueFor holds files o valid (read file) s text) (sym d.0) (file, ([], a, asks, all_of holds), d.1)
     where

@@ -1,6 +1,6 @@
 -- What is due where a file is not read, the first token of a text, and what the words are.
 use Rattle.std.proofs.Common.{inl, ◌≡◌, ◌++◌, ℕ, List, [], ◌∷◌, length, get_or, slice_index_or, length-append, ◌<◌, refl, sym, ap, ◌∙◌, subst, arith}
-use Rattle.std.specs.Prelude.{Option, Err, map, codes}
+use Rattle.std.specs.Prelude.{Option, Err, map}
 use Rattle.alg_laws.specs.Operations.{Operations}
 use Rattle.va_base.specs.declared.expanded.Expanded.{Expanded}
 use Rattle.va_base.specs.declared.fault.Fault.{Fault}
@@ -14,18 +14,19 @@ use Rattle.va_preproc.specs.Answers.{Seen as FilesSeen, IsAnswer}
 use Rattle.va_command.specs.declared.status.Status.{Status}
 use Rattle.va_command.specs.declared.status.Status.TheVariants.{NoFile, ReadFault, Refused}
 use Rattle.va_command.specs.Requests.{compile}
-use Rattle.va_command.specs.Faults.{StandsFirst, fault_line}
+use Rattle.va_report.specs.Reasons.{fault_line, no_such_file_line, read_fault_line}
+use Rattle.va_command.specs.Faults.{StandsFirst}
 use Rattle.va_command.specs.Answers.{IsDueFor}
 
 -- what the files answered
 module _ {V : Type 0} (o : Operations V) (valid : V → Type 0) (holds : Option Holdings) (files : FilesSeen) (file : List ℕ) where
   pub due_missing : (status : Status) (text : List ℕ) → IsAnswer holds file files (Err answer.Missing)
-      → (status ≡ NoFile) × (text ≡ file ++ codes ": no such file\n") → IsDueFor holds files o valid (compile file) status text
+      → (status ≡ NoFile) × (text ≡ no_such_file_line file) → IsDueFor holds files o valid (compile file) status text
   due_missing status text a d =
       subst (λ s. IsDueFor holds files o valid (compile file) s text) (sym d.0) (a, d.1)
 
   pub due_failed : (name : List ℕ) (status : Status) (text : List ℕ) → IsAnswer holds file files (Err (answer.Failed name))
-      → (status ≡ ReadFault) × (text ≡ name ++ codes ": read fault\n") → IsDueFor holds files o valid (compile file) status text
+      → (status ≡ ReadFault) × (text ≡ read_fault_line name) → IsDueFor holds files o valid (compile file) status text
   due_failed name status text a d =
       subst (λ s. IsDueFor holds files o valid (compile file) s text) (sym d.0) (name, a, d.1)
 

@@ -1,5 +1,5 @@
 -- What the program answers: how it ends, what it writes, and from which cause.
-use Rattle.std.specs.Prelude.{◌≡◌, ◌<◌, ◌⊎◌, ℕ, List, [], ◌∷◌, ◌++◌, length, Option, Some, None, codes}
+use Rattle.std.specs.Prelude.{◌≡◌, ◌<◌, ◌⊎◌, ℕ, List, [], ◌∷◌, ◌++◌, length, Option, Some, None}
 use Rattle.alg_laws.specs.Operations.{Operations}
 use Rattle.c_tree.specs.declared.short.ShortModule.{ShortModule}
 use Rattle.c_tree.specs.short.Text.{text_of}
@@ -15,7 +15,8 @@ use Rattle.va_preproc.specs.Answers.{Seen as FilesSeen, AsksFor, CountsFault, Ar
 use Rattle.va_preproc.specs.Expansion.{limits, expansion, expanded, faulty, texts}
 use Rattle.va_preproc.specs.Reading.{Stop}
 use Rattle.va_command.specs.CFiles.{IsDueOfText, ReadEnds}
-use Rattle.va_command.specs.Faults.{fault_line, HasTextFault}
+use Rattle.va_report.specs.Reasons.{fault_line, no_such_file_line, read_fault_line, usage_line}
+use Rattle.va_command.specs.Faults.{HasTextFault}
 use Rattle.va_command.specs.Requests.{Request, compile, read, IsRequest, IsNoRequest, reads_of}
 use Rattle.va_command.specs.declared.status.Status.{Status}
 use Rattle.va_command.specs.declared.status.Status.TheVariants.{Done, Refused, Usage, NoFile, ReadFault, WriteFault, NoMemory}
@@ -28,9 +29,6 @@ pub record IsCompiled {V : Type 0} (o : Operations V) (valid : V → Type 0) (e 
   pub modules : List ShortModule
   pub translation : IsTranslation o valid source modules
   pub print : text ≡ text_of modules
-
-abbrev pub usage_line : List ℕ
-usage_line = codes "usage: vaosdi compile|check|tables|read FILE, or eval FILE POINT, or make|work N\n"
 
 -- What is due for a request, over what the files hold, where it is told, and what is seen of them in the call.
 module _ (holds : Option Holdings) (files : FilesSeen) where
@@ -66,8 +64,8 @@ module _ (holds : Option Holdings) (files : FilesSeen) where
 
   -- the line for a file that is read by the words themselves, not by an include, and is not there
   abbrev pub IsLackLine : Request → List ℕ → Type 0
-  IsLackLine (compile file) text = IsLacking file × (text ≡ file ++ codes ": no such file\n")
-  IsLackLine (read file) text = IsLacking file × (text ≡ file ++ codes ": no such file\n")
+  IsLackLine (compile file) text = IsLacking file × (text ≡ no_such_file_line file)
+  IsLackLine (read file) text = IsLacking file × (text ≡ no_such_file_line file)
 
   -- The text that is due where a request ends with a status: an output, or the reason why there is none.
   module _ {V : Type 0} (o : Operations V) (valid : V → Type 0) where
@@ -75,7 +73,7 @@ module _ (holds : Option Holdings) (files : FilesSeen) where
     IsDueFor request Done text = IsOutput o valid request text
     IsDueFor request Refused text = IsFaultLine request text
     IsDueFor request NoFile text = IsLackLine request text
-    IsDueFor request ReadFault text = (name : List ℕ) × HasFailed request name × (text ≡ name ++ codes ": read fault\n")
+    IsDueFor request ReadFault text = (name : List ℕ) × HasFailed request name × (text ≡ read_fault_line name)
     IsDueFor request Usage text = ⊥
     IsDueFor request WriteFault text = ⊥
     IsDueFor request NoMemory text = ⊥

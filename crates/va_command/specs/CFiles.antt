@@ -16,7 +16,7 @@ use Rattle.c_syntax.specs.declared.error.CErr.TheVariants as error
 use Rattle.c_syntax.specs.Places.{fault_place}
 use Rattle.c_syntax.specs.Syntax.{IsSyntaxFault}
 use Rattle.c_reader.specs.Reading.{IsFileOf, IsBadByte, IsFormFault}
-use Rattle.va_command.specs.Faults.{fault_line}
+use Rattle.va_report.specs.Reasons.{fault_line}
 use Rattle.va_command.specs.declared.read_file.Refusal.{Refusal}
 use Rattle.va_command.specs.declared.read_file.Refusal.TheVariants as refusal
 use Rattle.va_command.specs.declared.status.Status.{Status}

@@ -1,12 +1,11 @@
 -- Faults as they are reported, and those of a text after expansion: of syntax, of size, and where it is not of the built form.
-use Rattle.std.specs.Prelude.{◌≡◌, ◌⊎◌, ℕ, List, [], ◌∷◌, ◌++◌, Option, Some, None, codes, decimal, slice_get}
+use Rattle.std.specs.Prelude.{◌≡◌, ◌⊎◌, ℕ, List, [], ◌∷◌, Option, Some, None, slice_get}
 use Rattle.va_base.specs.declared.expanded.Expanded.{Expanded}
 use Rattle.va_base.specs.declared.fault.Fault.{Fault}
 use Rattle.va_base.specs.declared.fault.FaultCode.TheVariants as code
 use Rattle.va_base.specs.declared.fault.Phase.TheVariants as phase
 use Rattle.va_base.specs.declared.file.FileText.{FileText}
 use Rattle.va_base.specs.declared.token.Token.{Token}
-use Rattle.va_base.specs.Faults.{spelling_of_code}
 use Rattle.predict.specs.Sentence.{IsFirstBad}
 use Rattle.va_tree.specs.declared.source.Source.{Source}
 use Rattle.va_tree.specs.Size.{LeastSizeFault}
@@ -16,12 +15,6 @@ use Rattle.va_build.specs.SourceOf.{IsSourceOf, IsSourceWithinSize}
 use Rattle.first_form.specs.Form.{FirstForm, IsSourceOfForm}
 use Rattle.va_command.specs.declared.front.FrontErr.{FrontErr}
 use Rattle.va_command.specs.declared.front.FrontErr.TheVariants as refusal
-
--- a fault's line: the name of its file, its line and column, and its code
-abbrev pub fault_line : List ℕ → Fault → List ℕ
-fault_line name fault =
-    name ++ codes ":" ++ decimal fault.place.line ++ codes ":" ++ decimal fault.place.col ++ codes ": " ++ spelling_of_code fault.code
-    ++ codes "\n"
 
 abbrev pub name_of : Option FileText → List ℕ
 name_of None = []

@@ -1,13 +1,13 @@
 //! What is due for the words of a command line: the output, or the reason why there is none.
-ghost use Rattle.std.specs.Prelude.{◌≡◌, ◌≤◌, ◌++◌, codes, map, string_bytes, IfOk};
+ghost use Rattle.std.specs.Prelude.{◌≡◌, ◌≤◌, map, string_bytes, IfOk};
 ghost use Rattle.va_base.specs.Expansion.{IsExpanded};
 ghost use Rattle.va_preproc.specs.Answers.{seen};
 ghost use Rattle.va_command.specs.Requests.{compile as compile_request, Asks, AsksFirst};
-ghost use Rattle.va_command.specs.Faults.{fault_line as fault_line_lem};
-ghost use Rattle.va_command.specs.Answers.{IsDue, IsDueFor, IsDueOfSource, usage_line};
+ghost use Rattle.va_command.specs.Answers.{IsDue, IsDueFor, IsDueOfSource};
+ghost use Rattle.va_report.specs.Reasons as report;
 
 use crate::compile::c_text;
-use crate::fault_line::{fault_line, file_name};
+use crate::file_name::file_name;
 use crate::front::FrontErr;
 use crate::read_file::read_tables;
 use crate::request::{Command, command_of};
@@ -18,9 +18,7 @@ use std::marker::PhantomData;
 use va_base::{Expanded, Fault, Name, NoMemory};
 use va_io::Files;
 use va_preproc::{PreErr, expand};
-
-const USAGE: &str =
-    "usage: vaosdi compile|check|tables|read FILE, or eval FILE POINT, or make|work N\n";
+use va_report::{fault_line, no_such_file_line, read_fault_line, usage_line};
 
 /// A text, and the status with which a command ends once it is written.
 #[derive(Debug, Drop)]
@@ -53,49 +51,43 @@ pub fn due_for<A: Algebra, F: Files>(
 }
 
 fn usage(alloc: Global) -> Result<Due, NoMemory>
-    ensures { IfOk result (λ due. (due.status ≡ Status.Usage) × (due.text.items ≡ usage_line)) }
+    ensures { IfOk result (λ due. (due.status ≡ Status.Usage) × (due.text.items ≡ report.usage_line)) }
 {
-    let text = Vec::from_slice(alloc, USAGE.as_bytes())?;
+    let text = usage_line(alloc)?;
     Ok(Due {
         status: Status::Usage,
         text,
     })
 }
 
-/// A reason that begins with a file's name.
-pub(crate) fn complaint(
-    alloc: Global,
-    status: Status,
-    name: &[u8],
-    reason: &str,
-) -> Result<Due, NoMemory>
-    ensures { IfOk result (λ due. (due.status ≡ status) × (due.text.items ≡ name.now ++ reason.now)) }
-{
-    let mut text = Vec::from_slice(alloc, name)?;
-    text.extend_from_slice(reason.as_bytes())?;
-    Ok(Due { status, text })
-}
-
 /// The reason where there is no file of the name that the words give.
 pub(crate) fn no_such_file(alloc: Global, file: &str) -> Result<Due, NoMemory>
     ensures { IfOk result
-        (λ due. (due.status ≡ Status.NoFile) × (due.text.items ≡ file.now ++ codes ": no such file\n")) }
+        (λ due. (due.status ≡ Status.NoFile) × (due.text.items ≡ report.no_such_file_line file.now)) }
 {
-    complaint(alloc, Status::NoFile, file.as_bytes(), ": no such file\n")
+    let text = no_such_file_line(alloc, file.as_bytes())?;
+    Ok(Due {
+        status: Status::NoFile,
+        text,
+    })
 }
 
 /// The reason where the read of a file failed.
-fn read_fault(alloc: Global, name: &Name) -> Result<Due, NoMemory>
+pub(crate) fn read_fault(alloc: Global, name: &[u8]) -> Result<Due, NoMemory>
     ensures { IfOk result
-        (λ due. (due.status ≡ Status.ReadFault) × (due.text.items ≡ name.now ++ codes ": read fault\n")) }
+        (λ due. (due.status ≡ Status.ReadFault) × (due.text.items ≡ report.read_fault_line name.now)) }
 {
-    complaint(alloc, Status::ReadFault, name.as_bytes(), ": read fault\n")
+    let text = read_fault_line(alloc, name)?;
+    Ok(Due {
+        status: Status::ReadFault,
+        text,
+    })
 }
 
 /// The reason that a fault is, which stands in a file of this name.
 fn refusal(alloc: Global, name: &[u8], fault: &Fault) -> Result<Due, NoMemory>
     ensures { IfOk result
-        (λ due. (due.status ≡ Status.Refused) × (due.text.items ≡ fault_line_lem name.now fault.now)) }
+        (λ due. (due.status ≡ Status.Refused) × (due.text.items ≡ report.fault_line name.now fault.now)) }
 {
     let text = fault_line(alloc, name, fault)?;
     Ok(Due {
@@ -107,9 +99,18 @@ fn refusal(alloc: Global, name: &[u8], fault: &Fault) -> Result<Due, NoMemory>
 /// The same, by the name of the file.
 fn refused(alloc: Global, name: &Name, fault: &Fault) -> Result<Due, NoMemory>
     ensures { IfOk result
-        (λ due. (due.status ≡ Status.Refused) × (due.text.items ≡ fault_line_lem name.now fault.now)) }
+        (λ due. (due.status ≡ Status.Refused) × (due.text.items ≡ report.fault_line name.now fault.now)) }
 {
     let due = refusal(alloc, name.as_bytes(), fault)?;
+    Ok(due)
+}
+
+/// The same for a read that failed, by the name of the file.
+fn failed(alloc: Global, name: &Name) -> Result<Due, NoMemory>
+    ensures { IfOk result
+        (λ due. (due.status ≡ Status.ReadFault) × (due.text.items ≡ report.read_fault_line name.now)) }
+{
+    let due = read_fault(alloc, name.as_bytes())?;
     Ok(due)
 }
 
@@ -144,7 +145,7 @@ fn compile<A: Algebra, F: Files>(
             Ok(due)
         }
         Err(PreErr::Failed { name }) => {
-            let due = read_fault(alloc, &name)?;
+            let due = failed(alloc, &name)?;
             Ok(due)
         }
         Err(PreErr::NoMemory) => Err(NoMemory),

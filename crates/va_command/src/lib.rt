@@ -4,7 +4,7 @@
 pub mod command;
 mod compile;
 mod due;
-mod fault_line;
+mod file_name;
 mod front;
 mod read_file;
 mod request;

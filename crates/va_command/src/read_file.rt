@@ -1,5 +1,5 @@
 //! What is due where the tables of a C file are asked for.
-ghost use Rattle.std.specs.Prelude.{◌≡◌, ◌<◌, ◌≤◌, ◌++◌, codes, IfOk, IsErrOf, length};
+ghost use Rattle.std.specs.Prelude.{◌≡◌, ◌<◌, ◌≤◌, IfOk, IsErrOf, length};
 ghost use Rattle.va_base.specs.Tables.{tables_text};
 ghost use Rattle.va_preproc.specs.Answers.{seen};
 ghost use Rattle.c_tree.specs.TablesOf.{tables_of};
@@ -8,18 +8,17 @@ ghost use Rattle.va_command.specs.CFiles.{IsAnswered, IsCFault, IsCFileOf, IsTab
 ghost use Rattle.va_command.specs.Requests.{AsksFirst, read as read_request};
 ghost use Rattle.va_command.specs.declared.read_file.CFault as spec_fault;
 
-use crate::due::{Due, complaint, no_such_file};
-use crate::fault_line::fault_line;
+use crate::due::{Due, no_such_file, read_fault};
 use crate::status::Status;
 use alg_laws::Algebra;
 use c_reader::read;
 use c_syntax::{CErr, place};
-use c_tables::tables;
 use c_tree::CFile;
 use std::alloc::Global;
 use std::marker::PhantomData;
 use va_base::{Fault, FaultCode, NoMemory, Phase, Place};
 use va_io::{FileErr, Files};
+use va_report::{fault_line, tables};
 
 /// The most bytes of a C file.
 const MOST_BYTES: usize = 67108864;
@@ -157,14 +156,6 @@ fn due_of_bytes(alloc: Global, file: &str, bytes: &[u8]) -> Result<Due, NoMemory
     }
 }
 
-/// The reason where the read of the file failed.
-fn read_fault(alloc: Global, file: &str) -> Result<Due, NoMemory>
-    ensures { IfOk result
-        (λ due. (due.status ≡ Status.ReadFault) × (due.text.items ≡ file.now ++ codes ": read fault\n")) }
-{
-    complaint(alloc, Status::ReadFault, file.as_bytes(), ": read fault\n")
-}
-
 /// What is due where the tables of a C file are asked for.
 #[tactic(auto, using(crate::proofs::CFiles::asks_read))]
 pub(crate) fn read_tables<A: Algebra, F: Files>(
@@ -192,7 +183,7 @@ pub(crate) fn read_tables<A: Algebra, F: Files>(
             Ok(due)
         }
         Err(FileErr::Failed) => {
-            let due = read_fault(alloc, file)?;
+            let due = read_fault(alloc, file.as_bytes())?;
             Ok(due)
         }
         Err(FileErr::NoMemory) => Err(NoMemory),
