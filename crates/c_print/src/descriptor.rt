@@ -1,8 +1,10 @@
 //! The descriptors, and what a host looks for first.
 ghost use Rattle.std.specs.Prelude.{◌≡◌, OnOk, ◌++◌, codes, length};
 ghost use Rattle.std.specs.List.{flat_map, enumerate_from};
-ghost use Rattle.c_tree.specs.Words.{template, unsigned, word as word_lem};
-ghost use Rattle.c_tree.specs.Text.{is_instance_kind as is_instance_kind_lem, is_parameter_kind as is_parameter_kind_lem, is_opvar_kind as is_opvar_kind_lem, count_kinds, table_fields_words, parameter_fields_words, offset_fields_words, function_fields_words, descriptor_words, elements_words, end_words};
+ghost use Rattle.c_tree.specs.Words as words_spec;
+ghost use Rattle.c_tree.specs.Words.{template, unsigned};
+ghost use Rattle.c_tree.specs.Text as text;
+ghost use Rattle.c_tree.specs.Text.{count_kinds, table_fields_words, parameter_fields_words, offset_fields_words, function_fields_words, descriptor_words, elements_words, end_words};
 ghost use Rattle.c_print.specs.Prints.{Prints};
 
 use crate::load::put_load_fields;
@@ -12,26 +14,26 @@ use c_tree::{CModule, ParamKind, ParamRow};
 use std::alloc::AllocError;
 
 fn is_instance_kind(kind: ParamKind) -> bool
-    ensures { result ≡ is_instance_kind_lem kind }
+    ensures { result ≡ text.is_instance_kind kind }
 {
     matches!(kind, ParamKind::Inst)
 }
 
 fn is_parameter_kind(kind: ParamKind) -> bool
-    ensures { result ≡ is_parameter_kind_lem kind }
+    ensures { result ≡ text.is_parameter_kind kind }
 {
     matches!(kind, ParamKind::Inst | ParamKind::Model)
 }
 
 fn is_opvar_kind(kind: ParamKind) -> bool
-    ensures { result ≡ is_opvar_kind_lem kind }
+    ensures { result ≡ text.is_opvar_kind kind }
 {
     matches!(kind, ParamKind::Opvar)
 }
 
 /// How many parameters of instances there are.
 fn instance_count(rows: &[ParamRow]) -> usize
-    ensures { result ≡ count_kinds is_instance_kind_lem rows.now }
+    ensures { result ≡ count_kinds text.is_instance_kind rows.now }
 {
     let mut count = 0;
     for row in rows {
@@ -44,7 +46,7 @@ fn instance_count(rows: &[ParamRow]) -> usize
 
 /// How many parameters there are.
 fn parameter_count(rows: &[ParamRow]) -> usize
-    ensures { result ≡ count_kinds is_parameter_kind_lem rows.now }
+    ensures { result ≡ count_kinds text.is_parameter_kind rows.now }
 {
     let mut count = 0;
     for row in rows {
@@ -57,7 +59,7 @@ fn parameter_count(rows: &[ParamRow]) -> usize
 
 /// How many operating-point variables there are.
 fn opvar_count(rows: &[ParamRow]) -> usize
-    ensures { result ≡ count_kinds is_opvar_kind_lem rows.now }
+    ensures { result ≡ count_kinds text.is_opvar_kind rows.now }
 {
     let mut count = 0;
     for row in rows {
@@ -69,21 +71,21 @@ fn opvar_count(rows: &[ParamRow]) -> usize
 }
 
 fn put_node_count(out: &mut Vec<u8>, tree: &CModule) -> Result<(), AllocError>
-    ensures { OnOk result (Prints out.old.items out.new.items (word_lem (unsigned (length tree.now.nodes)))) }
+    ensures { OnOk result (Prints out.old.items out.new.items (words_spec.word (unsigned (length tree.now.nodes)))) }
 {
     put_count(out, tree.nodes.as_list().len())?;
     Ok(())
 }
 
 fn put_entry_count(out: &mut Vec<u8>, tree: &CModule) -> Result<(), AllocError>
-    ensures { OnOk result (Prints out.old.items out.new.items (word_lem (unsigned (length tree.now.entries)))) }
+    ensures { OnOk result (Prints out.old.items out.new.items (words_spec.word (unsigned (length tree.now.entries)))) }
 {
     put_count(out, tree.entries.as_list().len())?;
     Ok(())
 }
 
 fn put_pair_count(out: &mut Vec<u8>, tree: &CModule) -> Result<(), AllocError>
-    ensures { OnOk result (Prints out.old.items out.new.items (word_lem (unsigned (length tree.now.collapse)))) }
+    ensures { OnOk result (Prints out.old.items out.new.items (words_spec.word (unsigned (length tree.now.collapse)))) }
 {
     put_count(out, tree.collapse.as_list().len())?;
     Ok(())
@@ -91,7 +93,7 @@ fn put_pair_count(out: &mut Vec<u8>, tree: &CModule) -> Result<(), AllocError>
 
 fn put_parameter_count(out: &mut Vec<u8>, tree: &CModule) -> Result<(), AllocError>
     ensures { OnOk result (Prints out.old.items out.new.items
-        (word_lem (unsigned (count_kinds is_parameter_kind_lem tree.now.params)))) }
+        (words_spec.word (unsigned (count_kinds text.is_parameter_kind tree.now.params)))) }
 {
     put_count(out, parameter_count(tree.params.as_list()))?;
     Ok(())
@@ -99,7 +101,7 @@ fn put_parameter_count(out: &mut Vec<u8>, tree: &CModule) -> Result<(), AllocErr
 
 fn put_instance_count(out: &mut Vec<u8>, tree: &CModule) -> Result<(), AllocError>
     ensures { OnOk result (Prints out.old.items out.new.items
-        (word_lem (unsigned (count_kinds is_instance_kind_lem tree.now.params)))) }
+        (words_spec.word (unsigned (count_kinds text.is_instance_kind tree.now.params)))) }
 {
     put_count(out, instance_count(tree.params.as_list()))?;
     Ok(())
@@ -107,7 +109,7 @@ fn put_instance_count(out: &mut Vec<u8>, tree: &CModule) -> Result<(), AllocErro
 
 fn put_opvar_count(out: &mut Vec<u8>, tree: &CModule) -> Result<(), AllocError>
     ensures { OnOk result (Prints out.old.items out.new.items
-        (word_lem (unsigned (count_kinds is_opvar_kind_lem tree.now.params)))) }
+        (words_spec.word (unsigned (count_kinds text.is_opvar_kind tree.now.params)))) }
 {
     put_count(out, opvar_count(tree.params.as_list()))?;
     Ok(())
@@ -209,7 +211,7 @@ fn put_descriptor(out: &mut Vec<u8>, k: usize, tree: &CModule) -> Result<(), All
 
 fn put_descriptors(out: &mut Vec<u8>, modules: &[CModule]) -> Result<(), AllocError>
     ensures { OnOk result (Prints out.old.items out.new.items
-        (flat_map (λ p. descriptor_words p.0 p.1 ++ word_lem (codes ",")) (enumerate_from 0 modules.now))) }
+        (flat_map (λ p. descriptor_words p.0 p.1 ++ words_spec.word (codes ",")) (enumerate_from 0 modules.now))) }
 {
     for (index, tree) in modules.iter().enumerate() {
         put_descriptor(out, index, tree)?;

@@ -1,7 +1,8 @@
 //! The functions of a module but for its loads.
 ghost use Rattle.std.specs.Prelude.{OnOk, ◌++◌, codes};
 ghost use Rattle.std.specs.List.{flat_map, enumerate_from};
-ghost use Rattle.c_tree.specs.Words.{cast_words, marked, with_commas, template, numbered, word as word_lem};
+ghost use Rattle.c_tree.specs.Words as words_spec;
+ghost use Rattle.c_tree.specs.Words.{cast_words, marked, with_commas, template, numbered};
 ghost use Rattle.c_tree.specs.Text.{argument_words, function_words, instance_words, model_words, instance_test_words, flag_words, access_row_words, access_words, init_words, setup_model_words, setup_instance_words, eval_words, body_words};
 ghost use Rattle.c_print.specs.Prints.{Prints};
 

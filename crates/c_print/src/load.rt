@@ -1,7 +1,8 @@
 //! The load functions.
 ghost use Rattle.std.specs.Prelude.{OnOk, ◌++◌, codes};
 ghost use Rattle.std.specs.List.{flat_map};
-ghost use Rattle.c_tree.specs.Words.{marked, template, numbered, unsigned, word as word_lem};
+ghost use Rattle.c_tree.specs.Words as words_spec;
+ghost use Rattle.c_tree.specs.Words.{marked, template, numbered, unsigned};
 ghost use Rattle.c_tree.specs.Text.{field_word, target_words, sign_word, factor_words, load_words, load_name, load_arguments, load_function_words, loads_words, load_field_words, load_functions};
 ghost use Rattle.c_print.specs.Prints.{Prints};
 
@@ -13,7 +14,7 @@ use std::alloc::AllocError;
 
 fn put_node_target(out: &mut Vec<u8>, node: u32) -> Result<(), AllocError>
     ensures { OnOk result (Prints out.old.items out.new.items
-        (template (codes "dst [ inst -> node [") ++ word_lem (unsigned node) ++ template (codes "] ]"))) }
+        (template (codes "dst [ inst -> node [") ++ words_spec.word (unsigned node) ++ template (codes "] ]"))) }
 {
     put_template(out, "dst [ inst -> node [")?;
     put_unsigned(out, node)?;
@@ -23,7 +24,7 @@ fn put_node_target(out: &mut Vec<u8>, node: u32) -> Result<(), AllocError>
 
 fn put_resist_target(out: &mut Vec<u8>, entry: u32) -> Result<(), AllocError>
     ensures { OnOk result (Prints out.old.items out.new.items
-        (template (codes "* inst -> jr [") ++ word_lem (unsigned entry) ++ word_lem (codes "]"))) }
+        (template (codes "* inst -> jr [") ++ words_spec.word (unsigned entry) ++ words_spec.word (codes "]"))) }
 {
     put_template(out, "* inst -> jr [")?;
     put_unsigned(out, entry)?;
@@ -33,7 +34,7 @@ fn put_resist_target(out: &mut Vec<u8>, entry: u32) -> Result<(), AllocError>
 
 fn put_react_target(out: &mut Vec<u8>, entry: u32) -> Result<(), AllocError>
     ensures { OnOk result (Prints out.old.items out.new.items
-        (template (codes "* inst -> jq [") ++ word_lem (unsigned entry) ++ word_lem (codes "]"))) }
+        (template (codes "* inst -> jq [") ++ words_spec.word (unsigned entry) ++ words_spec.word (codes "]"))) }
 {
     put_template(out, "* inst -> jq [")?;
     put_unsigned(out, entry)?;
@@ -52,7 +53,7 @@ fn put_target(out: &mut Vec<u8>, target: LoadTarget) -> Result<(), AllocError>
 }
 
 fn put_sign(out: &mut Vec<u8>, sign: LoadSign) -> Result<(), AllocError>
-    ensures { OnOk result (Prints out.old.items out.new.items (word_lem (sign_word sign))) }
+    ensures { OnOk result (Prints out.old.items out.new.items (words_spec.word (sign_word sign))) }
 {
     match sign {
         LoadSign::Put => put_word(out, b"="),
@@ -62,7 +63,7 @@ fn put_sign(out: &mut Vec<u8>, sign: LoadSign) -> Result<(), AllocError>
 }
 
 fn put_cell_factor(out: &mut Vec<u8>, field: CField) -> Result<(), AllocError>
-    ensures { OnOk result (Prints out.old.items out.new.items (template (codes "inst ->") ++ word_lem (field_word field))) }
+    ensures { OnOk result (Prints out.old.items out.new.items (template (codes "inst ->") ++ words_spec.word (field_word field))) }
 {
     put_template(out, "inst ->")?;
     put_field(out, field)?;
@@ -112,7 +113,7 @@ fn put_load_statements(out: &mut Vec<u8>, loads: &[CLoad]) -> Result<(), AllocEr
 
 /// The name of a load function of module k.
 fn put_load_name(out: &mut Vec<u8>, function: LoadFunction, k: usize) -> Result<(), AllocError>
-    ensures { OnOk result (Prints out.old.items out.new.items (word_lem (load_name function ++ numbered (codes "_") k))) }
+    ensures { OnOk result (Prints out.old.items out.new.items (words_spec.word (load_name function ++ numbered (codes "_") k))) }
 {
     match function {
         LoadFunction::ResidualResist => put_indexed(out, "load_residual_resist_", k),
@@ -213,7 +214,7 @@ pub fn put_loads(out: &mut Vec<u8>, k: usize, loads: &CLoads) -> Result<(), Allo
 
 /// The name of a load function's field in the descriptor.
 fn put_load_field_name(out: &mut Vec<u8>, function: LoadFunction) -> Result<(), AllocError>
-    ensures { OnOk result (Prints out.old.items out.new.items (word_lem (codes "." ++ load_name function))) }
+    ensures { OnOk result (Prints out.old.items out.new.items (words_spec.word (codes "." ++ load_name function))) }
 {
     match function {
         LoadFunction::ResidualResist => put_word(out, b".load_residual_resist"),

@@ -1,6 +1,7 @@
 //! Statements without blocks.
 ghost use Rattle.std.specs.Prelude.{OnOk, ◌++◌, codes};
-ghost use Rattle.c_tree.specs.Words.{template, unsigned, word as word_lem};
+ghost use Rattle.c_tree.specs.Words as words_spec;
+ghost use Rattle.c_tree.specs.Words.{template, unsigned};
 ghost use Rattle.c_tree.specs.Text.{type_word, local_word, cell_words, atom_words, right_words, simple_words};
 ghost use Rattle.c_print.specs.Prints.{Prints};
 
@@ -18,8 +19,8 @@ fn put_constant(
     right: &CRight,
 ) -> Result<(), AllocError>
     ensures { OnOk result (Prints out.old.items out.new.items
-        (word_lem (codes "const") ++ word_lem (type_word ty) ++ word_lem (local_word local) ++ word_lem (codes "=")
-        ++ right_words k right.now ++ word_lem (codes ";"))) }
+        (words_spec.word (codes "const") ++ words_spec.word (type_word ty) ++ words_spec.word (local_word local) ++ words_spec.word (codes "=")
+        ++ right_words k right.now ++ words_spec.word (codes ";"))) }
 {
     put_word(out, b"const")?;
     put_type(out, ty)?;
@@ -32,7 +33,7 @@ fn put_constant(
 
 fn put_join(out: &mut Vec<u8>, ty: Ty, local: u32) -> Result<(), AllocError>
     ensures { OnOk result (Prints out.old.items out.new.items
-        (word_lem (type_word ty) ++ word_lem (local_word local) ++ word_lem (codes ";"))) }
+        (words_spec.word (type_word ty) ++ words_spec.word (local_word local) ++ words_spec.word (codes ";"))) }
 {
     put_type(out, ty)?;
     put_numbered(out, "v", local)?;
@@ -42,8 +43,8 @@ fn put_join(out: &mut Vec<u8>, ty: Ty, local: u32) -> Result<(), AllocError>
 
 fn put_head(out: &mut Vec<u8>, ty: Ty, local: u32, first: CAtom) -> Result<(), AllocError>
     ensures { OnOk result (Prints out.old.items out.new.items
-        (word_lem (type_word ty) ++ word_lem (local_word local) ++ word_lem (codes "=") ++ atom_words first
-        ++ word_lem (codes ";"))) }
+        (words_spec.word (type_word ty) ++ words_spec.word (local_word local) ++ words_spec.word (codes "=") ++ atom_words first
+        ++ words_spec.word (codes ";"))) }
 {
     put_type(out, ty)?;
     put_numbered(out, "v", local)?;
@@ -55,7 +56,7 @@ fn put_head(out: &mut Vec<u8>, ty: Ty, local: u32, first: CAtom) -> Result<(), A
 
 fn put_assign(out: &mut Vec<u8>, local: u32, value: CAtom) -> Result<(), AllocError>
     ensures { OnOk result (Prints out.old.items out.new.items
-        (word_lem (local_word local) ++ word_lem (codes "=") ++ atom_words value ++ word_lem (codes ";"))) }
+        (words_spec.word (local_word local) ++ words_spec.word (codes "=") ++ atom_words value ++ words_spec.word (codes ";"))) }
 {
     put_numbered(out, "v", local)?;
     put_word(out, b"=")?;
@@ -66,7 +67,7 @@ fn put_assign(out: &mut Vec<u8>, local: u32, value: CAtom) -> Result<(), AllocEr
 
 fn put_set_cell(out: &mut Vec<u8>, cell: CCell, value: CAtom) -> Result<(), AllocError>
     ensures { OnOk result (Prints out.old.items out.new.items
-        (cell_words cell ++ word_lem (codes "=") ++ atom_words value ++ word_lem (codes ";"))) }
+        (cell_words cell ++ words_spec.word (codes "=") ++ atom_words value ++ words_spec.word (codes ";"))) }
 {
     put_cell(out, cell)?;
     put_word(out, b"=")?;
@@ -77,8 +78,8 @@ fn put_set_cell(out: &mut Vec<u8>, cell: CCell, value: CAtom) -> Result<(), Allo
 
 fn put_set_collapse(out: &mut Vec<u8>, pair: u32, value: CAtom) -> Result<(), AllocError>
     ensures { OnOk result (Prints out.old.items out.new.items
-        (template (codes "inst -> col [") ++ word_lem (unsigned pair) ++ template (codes "] =") ++ atom_words value
-        ++ word_lem (codes ";"))) }
+        (template (codes "inst -> col [") ++ words_spec.word (unsigned pair) ++ template (codes "] =") ++ atom_words value
+        ++ words_spec.word (codes ";"))) }
 {
     put_template(out, "inst -> col [")?;
     put_unsigned(out, pair)?;
@@ -90,7 +91,7 @@ fn put_set_collapse(out: &mut Vec<u8>, pair: u32, value: CAtom) -> Result<(), Al
 
 fn put_report(out: &mut Vec<u8>, id: u32) -> Result<(), AllocError>
     ensures { OnOk result (Prints out.old.items out.new.items
-        (template (codes "init_error ( res ,") ++ word_lem (unsigned id) ++ template (codes ") ;"))) }
+        (template (codes "init_error ( res ,") ++ words_spec.word (unsigned id) ++ template (codes ") ;"))) }
 {
     put_template(out, "init_error ( res ,")?;
     put_unsigned(out, id)?;

@@ -1,7 +1,8 @@
 //! The statements of an evaluation and of a load.
 ghost use Rattle.std.specs.Prelude.{OnOk};
 ghost use Rattle.std.specs.List.{flat_map};
-ghost use Rattle.c_tree.specs.short.Text.{word as word_lem, field_word, atom_words, operator_word, right_words};
+ghost use Rattle.c_tree.specs.short.Text as text;
+ghost use Rattle.c_tree.specs.short.Text.{field_word, atom_words, operator_word, right_words};
 ghost use Rattle.c_tree.specs.short.Text.{statement_words, load_words};
 ghost use Rattle.c_print.specs.Prints.{Prints};
 
@@ -10,7 +11,7 @@ use c_tree::short::{Atom, Field, Load, Operator, Right, Statement};
 use std::alloc::AllocError;
 
 fn put_field(out: &mut Vec<u8>, field: Field) -> Result<(), AllocError>
-    ensures { OnOk result (Prints out.old.items out.new.items (word_lem (field_word field))) }
+    ensures { OnOk result (Prints out.old.items out.new.items (text.word (field_word field))) }
 {
     match field {
         Field::Param(i) => put_numbered(out, "p", i),
@@ -42,7 +43,7 @@ fn put_atom(out: &mut Vec<u8>, atom: Atom) -> Result<(), AllocError>
 }
 
 fn put_operator(out: &mut Vec<u8>, operator: Operator) -> Result<(), AllocError>
-    ensures { OnOk result (Prints out.old.items out.new.items (word_lem (operator_word operator))) }
+    ensures { OnOk result (Prints out.old.items out.new.items (text.word (operator_word operator))) }
 {
     match operator {
         Operator::Plus => put_word(out, b"+"),

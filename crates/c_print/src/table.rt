@@ -1,8 +1,10 @@
 //! The tables of a module.
 ghost use Rattle.std.specs.Prelude.{◌≡◌, OnOk, ◌++◌, codes, true};
 ghost use Rattle.std.specs.List.{flat_map, enumerate_from};
-ghost use Rattle.c_tree.specs.Words.{marked, with_commas, template, numbered, string_word, unsigned, word as word_lem};
-ghost use Rattle.c_tree.specs.Text.{offset_words, node_words, second_word, pair_words, react_offset_words, parts_words, entry_words, parameter_type_word, kind_word, alias_count as alias_count_lem, parameter_words, elements_words, tables_words};
+ghost use Rattle.c_tree.specs.Words as words_spec;
+ghost use Rattle.c_tree.specs.Words.{marked, with_commas, template, numbered, string_word, unsigned};
+ghost use Rattle.c_tree.specs.Text as text;
+ghost use Rattle.c_tree.specs.Text.{offset_words, node_words, second_word, pair_words, react_offset_words, parts_words, entry_words, parameter_type_word, kind_word, parameter_words, elements_words, tables_words};
 ghost use Rattle.c_print.specs.Prints.{Prints};
 
 use crate::words::{
@@ -60,7 +62,7 @@ fn put_node(out: &mut Vec<u8>, k: usize, i: usize, node: &NodeRow) -> Result<(),
 }
 
 fn put_second(out: &mut Vec<u8>, second: Option<u32>) -> Result<(), AllocError>
-    ensures { OnOk result (Prints out.old.items out.new.items (word_lem (second_word second))) }
+    ensures { OnOk result (Prints out.old.items out.new.items (words_spec.word (second_word second))) }
 {
     match second {
         None => put_word(out, b"UINT32_MAX"),
@@ -129,7 +131,7 @@ fn put_entry(out: &mut Vec<u8>, k: usize, e: usize, entry: EntryRow) -> Result<(
 }
 
 fn put_parameter_type(out: &mut Vec<u8>, integer: bool) -> Result<(), AllocError>
-    ensures { OnOk result (Prints out.old.items out.new.items (word_lem (parameter_type_word integer))) }
+    ensures { OnOk result (Prints out.old.items out.new.items (words_spec.word (parameter_type_word integer))) }
 {
     match integer {
         true => put_word(out, b"PARA_TY_INT"),
@@ -138,7 +140,7 @@ fn put_parameter_type(out: &mut Vec<u8>, integer: bool) -> Result<(), AllocError
 }
 
 fn put_kind(out: &mut Vec<u8>, kind: ParamKind) -> Result<(), AllocError>
-    ensures { OnOk result (Prints out.old.items out.new.items (word_lem (kind_word kind))) }
+    ensures { OnOk result (Prints out.old.items out.new.items (words_spec.word (kind_word kind))) }
 {
     match kind {
         ParamKind::Inst => put_word(out, b"PARA_KIND_INST"),
@@ -150,7 +152,7 @@ fn put_kind(out: &mut Vec<u8>, kind: ParamKind) -> Result<(), AllocError>
 /// Names as strings, with a comma before each.
 fn put_more_names(out: &mut Vec<u8>, names: &[Name]) -> Result<(), AllocError>
     ensures { OnOk result (Prints out.old.items out.new.items
-        (marked (codes ",") (λ name. word_lem (string_word name)) names.now)) }
+        (marked (codes ",") (λ name. words_spec.word (string_word name)) names.now)) }
 {
     for name in names {
         put_word(out, b",")?;
@@ -162,7 +164,7 @@ fn put_more_names(out: &mut Vec<u8>, names: &[Name]) -> Result<(), AllocError>
 /// Names as strings, with a comma between each two.
 fn put_names(out: &mut Vec<u8>, names: &[Name]) -> Result<(), AllocError>
     ensures { OnOk result (Prints out.old.items out.new.items
-        (with_commas (λ name. word_lem (string_word name)) names.now)) }
+        (with_commas (λ name. words_spec.word (string_word name)) names.now)) }
 {
     if names.is_empty() {
         return Ok(());
@@ -174,7 +176,7 @@ fn put_names(out: &mut Vec<u8>, names: &[Name]) -> Result<(), AllocError>
 
 /// How many of the names are aliases.
 fn alias_count(names: &[Name]) -> usize
-    ensures { result ≡ alias_count_lem names.now }
+    ensures { result ≡ text.alias_count names.now }
 {
     if names.is_empty() { 0 } else { names.len() - 1 }
 }
@@ -201,7 +203,7 @@ fn put_parameter(out: &mut Vec<u8>, parameter: &ParamRow) -> Result<(), AllocErr
 
 fn put_nodes(out: &mut Vec<u8>, k: usize, nodes: &[NodeRow]) -> Result<(), AllocError>
     ensures { OnOk result (Prints out.old.items out.new.items
-        (flat_map (λ p. node_words k p.0 p.1 ++ word_lem (codes ",")) (enumerate_from 0 nodes.now))) }
+        (flat_map (λ p. node_words k p.0 p.1 ++ words_spec.word (codes ",")) (enumerate_from 0 nodes.now))) }
 {
     for (index, node) in nodes.iter().enumerate() {
         put_node(out, k, index, node)?;
@@ -212,7 +214,7 @@ fn put_nodes(out: &mut Vec<u8>, k: usize, nodes: &[NodeRow]) -> Result<(), Alloc
 
 fn put_entries(out: &mut Vec<u8>, k: usize, entries: &[EntryRow]) -> Result<(), AllocError>
     ensures { OnOk result (Prints out.old.items out.new.items
-        (flat_map (λ p. entry_words k p.0 p.1 ++ word_lem (codes ",")) (enumerate_from 0 entries.now))) }
+        (flat_map (λ p. entry_words k p.0 p.1 ++ words_spec.word (codes ",")) (enumerate_from 0 entries.now))) }
 {
     for (index, entry) in entries.iter().enumerate() {
         put_entry(out, k, index, *entry)?;
@@ -223,7 +225,7 @@ fn put_entries(out: &mut Vec<u8>, k: usize, entries: &[EntryRow]) -> Result<(), 
 
 fn put_pairs(out: &mut Vec<u8>, pairs: &[PairRow]) -> Result<(), AllocError>
     ensures { OnOk result (Prints out.old.items out.new.items
-        (flat_map (λ pair. pair_words pair ++ word_lem (codes ",")) pairs.now)) }
+        (flat_map (λ pair. pair_words pair ++ words_spec.word (codes ",")) pairs.now)) }
 {
     for pair in pairs {
         put_pair(out, *pair)?;
@@ -234,7 +236,7 @@ fn put_pairs(out: &mut Vec<u8>, pairs: &[PairRow]) -> Result<(), AllocError>
 
 fn put_parameters(out: &mut Vec<u8>, parameters: &[ParamRow]) -> Result<(), AllocError>
     ensures { OnOk result (Prints out.old.items out.new.items
-        (flat_map (λ parameter. parameter_words parameter ++ word_lem (codes ",")) parameters.now)) }
+        (flat_map (λ parameter. parameter_words parameter ++ words_spec.word (codes ",")) parameters.now)) }
 {
     for parameter in parameters {
         put_parameter(out, parameter)?;

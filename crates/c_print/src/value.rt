@@ -1,6 +1,7 @@
 //! Cells, atoms, and the right sides of constants.
 ghost use Rattle.std.specs.Prelude.{OnOk, ◌++◌, codes, length, [], ◌∷◌};
-ghost use Rattle.c_tree.specs.Words.{template, unsigned, word as word_lem, with_commas, marked};
+ghost use Rattle.c_tree.specs.Words as words_spec;
+ghost use Rattle.c_tree.specs.Words.{template, unsigned, with_commas, marked};
 ghost use Rattle.c_tree.specs.Text.{type_word, field_word, level_word, cell_words, atom_words, operator_word, fun1_word, fun2_word, callee_word, right_words};
 ghost use Rattle.c_print.specs.Prints.{Prints};
 
@@ -13,7 +14,7 @@ use std::alloc::AllocError;
 use va_base::Items;
 
 pub fn put_type(out: &mut Vec<u8>, ty: Ty) -> Result<(), AllocError>
-    ensures { OnOk result (Prints out.old.items out.new.items (word_lem (type_word ty))) }
+    ensures { OnOk result (Prints out.old.items out.new.items (words_spec.word (type_word ty))) }
 {
     match ty {
         Ty::Real => put_word(out, b"double"),
@@ -22,7 +23,7 @@ pub fn put_type(out: &mut Vec<u8>, ty: Ty) -> Result<(), AllocError>
 }
 
 pub fn put_field(out: &mut Vec<u8>, field: CField) -> Result<(), AllocError>
-    ensures { OnOk result (Prints out.old.items out.new.items (word_lem (field_word field))) }
+    ensures { OnOk result (Prints out.old.items out.new.items (words_spec.word (field_word field))) }
 {
     match field {
         CField::Param(i) => put_numbered(out, "p", i),
@@ -38,7 +39,7 @@ pub fn put_field(out: &mut Vec<u8>, field: CField) -> Result<(), AllocError>
 }
 
 fn put_level(out: &mut Vec<u8>, level: Level) -> Result<(), AllocError>
-    ensures { OnOk result (Prints out.old.items out.new.items (word_lem (level_word level))) }
+    ensures { OnOk result (Prints out.old.items out.new.items (words_spec.word (level_word level))) }
 {
     match level {
         Level::Instance => put_word(out, b"inst"),
@@ -58,7 +59,7 @@ pub fn put_cell(out: &mut Vec<u8>, cell: CCell) -> Result<(), AllocError>
 /// The solution at the place to which an unknown is mapped.
 pub fn put_unknown(out: &mut Vec<u8>, unknown: u32) -> Result<(), AllocError>
     ensures { OnOk result (Prints out.old.items out.new.items
-        (template (codes "x [ inst -> node [") ++ word_lem (unsigned unknown) ++ template (codes "] ]"))) }
+        (template (codes "x [ inst -> node [") ++ words_spec.word (unsigned unknown) ++ template (codes "] ]"))) }
 {
     put_template(out, "x [ inst -> node [")?;
     put_unsigned(out, unknown)?;
@@ -80,7 +81,7 @@ pub fn put_atom(out: &mut Vec<u8>, atom: CAtom) -> Result<(), AllocError>
 }
 
 fn put_operator(out: &mut Vec<u8>, operator: COperator) -> Result<(), AllocError>
-    ensures { OnOk result (Prints out.old.items out.new.items (word_lem (operator_word operator))) }
+    ensures { OnOk result (Prints out.old.items out.new.items (words_spec.word (operator_word operator))) }
 {
     match operator {
         COperator::Plus => put_word(out, b"+"),
@@ -98,7 +99,7 @@ fn put_operator(out: &mut Vec<u8>, operator: COperator) -> Result<(), AllocError
 }
 
 fn put_fun1(out: &mut Vec<u8>, function: Fun1) -> Result<(), AllocError>
-    ensures { OnOk result (Prints out.old.items out.new.items (word_lem (fun1_word function))) }
+    ensures { OnOk result (Prints out.old.items out.new.items (words_spec.word (fun1_word function))) }
 {
     match function {
         Fun1::Exp => put_word(out, b"exp"),
@@ -123,7 +124,7 @@ fn put_fun1(out: &mut Vec<u8>, function: Fun1) -> Result<(), AllocError>
 }
 
 fn put_fun2(out: &mut Vec<u8>, function: Fun2) -> Result<(), AllocError>
-    ensures { OnOk result (Prints out.old.items out.new.items (word_lem (fun2_word function))) }
+    ensures { OnOk result (Prints out.old.items out.new.items (words_spec.word (fun2_word function))) }
 {
     match function {
         Fun2::Pow => put_word(out, b"pow"),
@@ -134,7 +135,7 @@ fn put_fun2(out: &mut Vec<u8>, function: Fun2) -> Result<(), AllocError>
 
 /// What is called, in module number k.
 fn put_callee(out: &mut Vec<u8>, k: usize, callee: CCallee) -> Result<(), AllocError>
-    ensures { OnOk result (Prints out.old.items out.new.items (word_lem (callee_word k callee))) }
+    ensures { OnOk result (Prints out.old.items out.new.items (words_spec.word (callee_word k callee))) }
 {
     match callee {
         CCallee::Fun1(function) => put_fun1(out, function),
@@ -167,7 +168,7 @@ fn put_atoms(out: &mut Vec<u8>, atoms: &[CAtom]) -> Result<(), AllocError>
 }
 
 fn put_negated(out: &mut Vec<u8>, atom: CAtom) -> Result<(), AllocError>
-    ensures { OnOk result (Prints out.old.items out.new.items (word_lem (codes "-") ++ atom_words atom)) }
+    ensures { OnOk result (Prints out.old.items out.new.items (words_spec.word (codes "-") ++ atom_words atom)) }
 {
     put_word(out, b"-")?;
     put_atom(out, atom)?;
@@ -175,7 +176,7 @@ fn put_negated(out: &mut Vec<u8>, atom: CAtom) -> Result<(), AllocError>
 }
 
 fn put_contrary(out: &mut Vec<u8>, atom: CAtom) -> Result<(), AllocError>
-    ensures { OnOk result (Prints out.old.items out.new.items (word_lem (codes "!") ++ atom_words atom)) }
+    ensures { OnOk result (Prints out.old.items out.new.items (words_spec.word (codes "!") ++ atom_words atom)) }
 {
     put_word(out, b"!")?;
     put_atom(out, atom)?;
@@ -192,7 +193,7 @@ fn put_to_real(out: &mut Vec<u8>, atom: CAtom) -> Result<(), AllocError>
 
 fn put_to_integer(out: &mut Vec<u8>, atom: CAtom) -> Result<(), AllocError>
     ensures { OnOk result (Prints out.old.items out.new.items
-        (template (codes "( int32_t ) lround (") ++ atom_words atom ++ word_lem (codes ")"))) }
+        (template (codes "( int32_t ) lround (") ++ atom_words atom ++ words_spec.word (codes ")"))) }
 {
     put_template(out, "( int32_t ) lround (")?;
     put_atom(out, atom)?;
@@ -202,7 +203,7 @@ fn put_to_integer(out: &mut Vec<u8>, atom: CAtom) -> Result<(), AllocError>
 
 fn put_call(out: &mut Vec<u8>, k: usize, callee: CCallee, args: &[CAtom]) -> Result<(), AllocError>
     ensures { OnOk result (Prints out.old.items out.new.items
-        (word_lem (callee_word k callee) ++ word_lem (codes "(") ++ with_commas atom_words args.now ++ word_lem (codes ")"))) }
+        (words_spec.word (callee_word k callee) ++ words_spec.word (codes "(") ++ with_commas atom_words args.now ++ words_spec.word (codes ")"))) }
 {
     put_callee(out, k, callee)?;
     put_word(out, b"(")?;
@@ -218,7 +219,7 @@ fn put_binary(
     right: CAtom,
 ) -> Result<(), AllocError>
     ensures { OnOk result (Prints out.old.items out.new.items
-        (atom_words left ++ word_lem (operator_word operator) ++ atom_words right)) }
+        (atom_words left ++ words_spec.word (operator_word operator) ++ atom_words right)) }
 {
     put_atom(out, left)?;
     put_operator(out, operator)?;

@@ -1,8 +1,10 @@
 //! Whole files: the includes, the two functions that each file begins with, and its modules.
 ghost use Rattle.std.specs.Prelude.{◌≡◌, OnOk, ◌++◌, codes, length};
 ghost use Rattle.std.specs.List.{flat_map, enumerate_from};
-ghost use Rattle.c_tree.specs.Words.{array_length, template, unsigned, word as word_lem};
-ghost use Rattle.c_tree.specs.Text.{field_type as field_type_lem, help_words, field_words, structs_words, module_words};
+ghost use Rattle.c_tree.specs.Words as words_spec;
+ghost use Rattle.c_tree.specs.Words.{array_length, template, unsigned};
+ghost use Rattle.c_tree.specs.Text as text;
+ghost use Rattle.c_tree.specs.Text.{help_words, field_words, structs_words, module_words};
 ghost use Rattle.c_print.specs.Prints.{Prints};
 
 use crate::function::{
@@ -45,7 +47,7 @@ pub fn put_help(out: &mut Vec<u8>) -> Result<(), AllocError>
 }
 
 fn field_type(integer: bool) -> Ty
-    ensures { result ≡ field_type_lem integer }
+    ensures { result ≡ text.field_type integer }
 {
     if integer { Ty::Integer } else { Ty::Real }
 }
@@ -71,7 +73,7 @@ fn put_struct_fields(out: &mut Vec<u8>, fields: &[FieldRow]) -> Result<(), Alloc
 /// The length of the array of the nodes' numbers.
 fn put_node_array(out: &mut Vec<u8>, tree: &CModule) -> Result<(), AllocError>
     ensures { OnOk result (Prints out.old.items out.new.items
-        (word_lem (unsigned (array_length (length tree.now.nodes))))) }
+        (words_spec.word (unsigned (array_length (length tree.now.nodes))))) }
 {
     put_count(out, tree.nodes.as_list().len().max(1))?;
     Ok(())
@@ -80,7 +82,7 @@ fn put_node_array(out: &mut Vec<u8>, tree: &CModule) -> Result<(), AllocError>
 /// The length of an array for the entries.
 fn put_entry_array(out: &mut Vec<u8>, tree: &CModule) -> Result<(), AllocError>
     ensures { OnOk result (Prints out.old.items out.new.items
-        (word_lem (unsigned (array_length (length tree.now.entries))))) }
+        (words_spec.word (unsigned (array_length (length tree.now.entries))))) }
 {
     put_count(out, tree.entries.as_list().len().max(1))?;
     Ok(())
@@ -89,7 +91,7 @@ fn put_entry_array(out: &mut Vec<u8>, tree: &CModule) -> Result<(), AllocError>
 /// The length of the array of the collapse flags.
 fn put_collapse_array(out: &mut Vec<u8>, tree: &CModule) -> Result<(), AllocError>
     ensures { OnOk result (Prints out.old.items out.new.items
-        (word_lem (unsigned (array_length (length tree.now.collapse))))) }
+        (words_spec.word (unsigned (array_length (length tree.now.collapse))))) }
 {
     put_count(out, tree.collapse.as_list().len().max(1))?;
     Ok(())

@@ -1,10 +1,12 @@
 //! Words, each with the space or the line end behind it.
 ghost use Rattle.std.specs.Prelude.{◌≡◌, ◌≤◌, ◌++◌, ◌∷◌, [], if◌then◌else◌, drop, length, OnOk};
-ghost use Rattle.c_tree.specs.short.Text.{ends_line as ends_line_lem, numbered, template, unsigned, word as word_lem};
+ghost use Rattle.c_tree.specs.short.Text as text_spec;
+ghost use Rattle.c_tree.specs.short.Text.{numbered, template, unsigned};
 ghost use Rattle.c_print.specs.Prints.{Prints};
 ghost use Rattle.std.specs.Prelude.{decimal};
 ghost use Rattle.std.specs.List.{flat_map};
-ghost use Rattle.c_tree.specs.Words.{real_word, stands_as_itself as stands_as_itself_lem, string_byte, string_word};
+ghost use Rattle.c_tree.specs.Words as words_spec;
+ghost use Rattle.c_tree.specs.Words.{real_word, string_byte, string_word};
 ghost use Rattle.c_tree.specs.Text.{function_word};
 
 use itoa::Buffer;
@@ -13,7 +15,7 @@ use va_base::{Decimal, Name};
 
 /// Whether a line ends behind a word.
 fn ends_line(word: &[u8]) -> bool
-    ensures { result ≡ ends_line_lem word.now }
+    ensures { result ≡ text_spec.ends_line word.now }
 {
     match word {
         [] => false,
@@ -26,7 +28,7 @@ fn ends_line(word: &[u8]) -> bool
 fn end_word(out: &mut Vec<u8>, start: usize) -> Result<(), AllocError>
     requires { start ≤ length out.old.items }
     ensures { OnOk result (out.new.items
-        ≡ out.old.items ++ (if ends_line_lem (drop start out.old.items) then 10 else 32) ∷ []) }
+        ≡ out.old.items ++ (if text_spec.ends_line (drop start out.old.items) then 10 else 32) ∷ []) }
 {
     let end = if ends_line(&out[start..]) {
         b'\n'
@@ -39,7 +41,7 @@ fn end_word(out: &mut Vec<u8>, start: usize) -> Result<(), AllocError>
 
 /// One word.
 pub fn put_word(out: &mut Vec<u8>, word: &[u8]) -> Result<(), AllocError>
-    ensures { OnOk result (Prints out.old.items out.new.items (word_lem word.now)) }
+    ensures { OnOk result (Prints out.old.items out.new.items (text_spec.word word.now)) }
 {
     let start = out.len();
     out.extend_from_slice(word)?;
@@ -49,7 +51,7 @@ pub fn put_word(out: &mut Vec<u8>, word: &[u8]) -> Result<(), AllocError>
 
 /// A name that ends with a number, as `p3`.
 pub fn put_numbered(out: &mut Vec<u8>, name: &str, number: u32) -> Result<(), AllocError>
-    ensures { OnOk result (Prints out.old.items out.new.items (word_lem (numbered name.now number))) }
+    ensures { OnOk result (Prints out.old.items out.new.items (text_spec.word (numbered name.now number))) }
 {
     let start = out.len();
     let mut digits = Buffer::new();
@@ -61,7 +63,7 @@ pub fn put_numbered(out: &mut Vec<u8>, name: &str, number: u32) -> Result<(), Al
 
 /// An unsigned number, as `3u`.
 pub fn put_unsigned(out: &mut Vec<u8>, number: u32) -> Result<(), AllocError>
-    ensures { OnOk result (Prints out.old.items out.new.items (word_lem (unsigned number))) }
+    ensures { OnOk result (Prints out.old.items out.new.items (text_spec.word (unsigned number))) }
 {
     let start = out.len();
     let mut digits = Buffer::new();
@@ -86,7 +88,7 @@ pub fn put_template(out: &mut Vec<u8>, text: &str) -> Result<(), AllocError>
 
 /// A name that ends with a number of any size.
 pub fn put_indexed(out: &mut Vec<u8>, name: &str, index: usize) -> Result<(), AllocError>
-    ensures { OnOk result (Prints out.old.items out.new.items (word_lem (numbered name.now index))) }
+    ensures { OnOk result (Prints out.old.items out.new.items (text_spec.word (numbered name.now index))) }
 {
     let start = out.len();
     let mut digits = Buffer::new();
@@ -98,7 +100,7 @@ pub fn put_indexed(out: &mut Vec<u8>, name: &str, index: usize) -> Result<(), Al
 
 /// The name of a function of a module, as `fn_0_1`.
 pub fn put_function_name(out: &mut Vec<u8>, number: usize, index: usize) -> Result<(), AllocError>
-    ensures { OnOk result (Prints out.old.items out.new.items (word_lem (function_word number index))) }
+    ensures { OnOk result (Prints out.old.items out.new.items (text_spec.word (function_word number index))) }
 {
     let start = out.len();
     let mut digits = Buffer::new();
@@ -113,7 +115,7 @@ pub fn put_function_name(out: &mut Vec<u8>, number: usize, index: usize) -> Resu
 
 /// An unsigned number of any size, as `3u`.
 pub fn put_count(out: &mut Vec<u8>, count: usize) -> Result<(), AllocError>
-    ensures { OnOk result (Prints out.old.items out.new.items (word_lem (unsigned count))) }
+    ensures { OnOk result (Prints out.old.items out.new.items (text_spec.word (unsigned count))) }
 {
     let start = out.len();
     let mut digits = Buffer::new();
@@ -125,7 +127,7 @@ pub fn put_count(out: &mut Vec<u8>, count: usize) -> Result<(), AllocError>
 
 /// An integer, as `3`.
 pub fn put_integer(out: &mut Vec<u8>, number: u32) -> Result<(), AllocError>
-    ensures { OnOk result (Prints out.old.items out.new.items (word_lem (decimal number))) }
+    ensures { OnOk result (Prints out.old.items out.new.items (text_spec.word (decimal number))) }
 {
     let start = out.len();
     let mut digits = Buffer::new();
@@ -136,7 +138,7 @@ pub fn put_integer(out: &mut Vec<u8>, number: u32) -> Result<(), AllocError>
 
 /// A real, as `15e-4`.
 pub fn put_real(out: &mut Vec<u8>, value: Decimal) -> Result<(), AllocError>
-    ensures { OnOk result (Prints out.old.items out.new.items (word_lem (real_word value.mantissa value.power))) }
+    ensures { OnOk result (Prints out.old.items out.new.items (text_spec.word (real_word value.mantissa value.power))) }
 {
     let start = out.len();
     let mut digits = Buffer::new();
@@ -150,7 +152,7 @@ pub fn put_real(out: &mut Vec<u8>, value: Decimal) -> Result<(), AllocError>
 
 /// Whether a byte stands as itself in a string.
 fn stands_as_itself(byte: u8) -> bool
-    ensures { result ≡ stands_as_itself_lem byte }
+    ensures { result ≡ words_spec.stands_as_itself byte }
 {
     32 <= byte && byte <= 126 && !matches!(byte, b'"' | b'?' | b'\\' | b'`')
 }
@@ -182,7 +184,7 @@ fn push_string_bytes(out: &mut Vec<u8>, bytes: &[u8]) -> Result<(), AllocError>
 
 /// A string between its quotes.
 pub fn put_string(out: &mut Vec<u8>, name: &Name) -> Result<(), AllocError>
-    ensures { OnOk result (Prints out.old.items out.new.items (word_lem (string_word name.now))) }
+    ensures { OnOk result (Prints out.old.items out.new.items (text_spec.word (string_word name.now))) }
 {
     let start = out.len();
     out.push(b'"')?;
@@ -194,7 +196,7 @@ pub fn put_string(out: &mut Vec<u8>, name: &Name) -> Result<(), AllocError>
 
 /// A name as it stands.
 pub fn put_name(out: &mut Vec<u8>, name: &Name) -> Result<(), AllocError>
-    ensures { OnOk result (Prints out.old.items out.new.items (word_lem name.now)) }
+    ensures { OnOk result (Prints out.old.items out.new.items (text_spec.word name.now)) }
 {
     put_word(out, name.as_bytes())?;
     Ok(())

@@ -2,7 +2,8 @@
 ghost use Rattle.std.specs.Prelude.{◌≡◌, OnOk, codes, map};
 ghost use Rattle.std.specs.List.{flat_map, enumerate_from};
 ghost use Rattle.va_base.specs.Tables.{alias_text, given_text, parameter_text, parameter_text_of, operating_point, type_text};
-ghost use Rattle.c_tree.specs.TablesOf.{own_name as own_name_lem, aliases_of as aliases_of_lem, parameter_line};
+ghost use Rattle.c_tree.specs.TablesOf as tables_of;
+ghost use Rattle.c_tree.specs.TablesOf.{parameter_line};
 ghost use Rattle.c_tables.specs.Prints.{Prints};
 
 use crate::line::{put_bytes, put_index, put_name, put_quoted, put_word};
@@ -12,7 +13,7 @@ use va_base::Name;
 
 /// The own name among a parameter's names.
 fn own_name(names: &[Name]) -> &[u8]
-    ensures { result.now ≡ own_name_lem names.now }
+    ensures { result.now ≡ tables_of.own_name names.now }
 {
     match names {
         [] => b"",
@@ -22,7 +23,7 @@ fn own_name(names: &[Name]) -> &[u8]
 
 /// The other names, which are aliases.
 fn aliases_of(names: &[Name]) -> &[Name]
-    ensures { result.now ≡ aliases_of_lem names.now }
+    ensures { result.now ≡ tables_of.aliases_of names.now }
 {
     match names {
         [] => names,

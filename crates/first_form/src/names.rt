@@ -2,7 +2,7 @@
 ghost use Rattle.std.specs.Prelude.{◌≡◌, ◌≤◌, ◌<◌, ◌∷◌, [], ◌++◌, ◌⊎◌, ℕ, List, length, map, Contains, MatchOption, OnOk, IsErrOf};
 ghost use Rattle.std.specs.List.{list_any};
 ghost use Rattle.std.specs.Str.{bytes_eq};
-ghost use Rattle.first_form.specs.Form.{is_free as is_free_lem};
+ghost use Rattle.first_form.specs.Form as form_spec;
 ghost use Rattle.first_form.specs.Residuals.{number_in};
 
 use crate::TranslateErr;
@@ -27,7 +27,7 @@ pub fn is_bytes(name: &[u8], other: &[u8]) -> bool
 
 /// Whether a name is none that the first form uses itself, so that it may be declared.
 pub fn is_free(name: &[u8]) -> bool
-    ensures { result ≡ is_free_lem name.now }
+    ensures { result ≡ form_spec.is_free name.now }
 {
     !is_bytes(name, b"V") && !is_bytes(name, b"I") && !is_bytes(name, b"electrical")
 }

@@ -3,7 +3,8 @@ ghost use Rattle.std.specs.Prelude.{◌≡◌, ◌∷◌, [], ℕ, List, Some, N
 ghost use Rattle.va_tree.specs.declared.module.Item.{Item};
 ghost use Rattle.va_tree.specs.declared.module.Module.{Module};
 ghost use Rattle.va_tree.specs.Expressions.{Expression, expression_of};
-ghost use Rattle.first_form.specs.Form.{names_of, are_ports as are_ports_lem, is_plain_inout as is_plain_inout_lem, is_inout as is_inout_lem, is_electrical as is_electrical_lem, is_whole as is_whole_lem, only_parameter as only_parameter_lem, is_real_parameter as is_real_parameter_lem, parameter_name as parameter_name_lem, is_second as is_second_lem, contributed as contributed_lem, flow_of, are_bare as are_bare_lem, HasItems, HasShape};
+ghost use Rattle.first_form.specs.Form as form_spec;
+ghost use Rattle.first_form.specs.Form.{names_of, flow_of, HasItems, HasShape};
 ghost use Rattle.first_form.specs.Reading.{HasOnly};
 
 use crate::names::is_named;
@@ -26,7 +27,7 @@ pub struct Shape<'a> {
 
 /// Whether these names are the ports, in order.
 fn are_ports(names: &[NameAt], first: &[u8], second: &[u8]) -> bool
-    ensures { result ≡ are_ports_lem first.now second.now (names_of names.now) }
+    ensures { result ≡ form_spec.are_ports first.now second.now (names_of names.now) }
 {
     match names {
         [a, c] => is_named(&a.name, first) && is_named(&c.name, second),
@@ -36,7 +37,7 @@ fn are_ports(names: &[NameAt], first: &[u8], second: &[u8]) -> bool
 
 /// Whether a direction is `inout`, and no discipline follows.
 fn is_plain_inout(direction: Direction, discipline: &Option<NameAt>) -> bool
-    ensures { result ≡ is_plain_inout_lem direction discipline.now }
+    ensures { result ≡ form_spec.is_plain_inout direction discipline.now }
 {
     match direction {
         Direction::Inout => discipline.is_none(),
@@ -46,7 +47,7 @@ fn is_plain_inout(direction: Direction, discipline: &Option<NameAt>) -> bool
 
 /// Whether an item is `inout` with the ports.
 fn is_inout(item: &ItemBody, first: &[u8], second: &[u8]) -> bool
-    ensures { result ≡ is_inout_lem first.now second.now item.now }
+    ensures { result ≡ form_spec.is_inout first.now second.now item.now }
 {
     match item {
         ItemBody::Direction {
@@ -61,7 +62,7 @@ fn is_inout(item: &ItemBody, first: &[u8], second: &[u8]) -> bool
 
 /// Whether an item is `electrical` with the ports.
 fn is_electrical(item: &ItemBody, first: &[u8], second: &[u8]) -> bool
-    ensures { result ≡ is_electrical_lem first.now second.now item.now }
+    ensures { result ≡ form_spec.is_electrical first.now second.now item.now }
 {
     match item {
         ItemBody::Nodes {
@@ -75,7 +76,7 @@ fn is_electrical(item: &ItemBody, first: &[u8], second: &[u8]) -> bool
 
 /// Whether an expression is a whole number.
 fn is_whole(e: &Expr) -> bool
-    ensures { result ≡ is_whole_lem e.now }
+    ensures { result ≡ form_spec.is_whole e.now }
 {
     match e {
         Expr::Literal { integer, .. } => *integer,
@@ -85,8 +86,8 @@ fn is_whole(e: &Expr) -> bool
 
 /// The name of the only one of some parameters, where its default is a whole number and it has no range.
 fn only_parameter(parameters: &[Parameter]) -> Option<&[u8]>
-    ensures { MatchOption result (only_parameter_lem parameters.now ≡ None)
-        (λ name. only_parameter_lem parameters.now ≡ Some name.now) }
+    ensures { MatchOption result (form_spec.only_parameter parameters.now ≡ None)
+        (λ name. form_spec.only_parameter parameters.now ≡ Some name.now) }
 {
     match parameters {
         [p] if is_whole(&p.default) && p.ranges.as_list().is_empty() => Some(
@@ -98,7 +99,7 @@ fn only_parameter(parameters: &[Parameter]) -> Option<&[u8]>
 
 /// Whether parameters are not local, and of type real.
 fn is_real_parameter(local: bool, ty: Option<Ty>) -> bool
-    ensures { result ≡ is_real_parameter_lem local ty }
+    ensures { result ≡ form_spec.is_real_parameter local ty }
 {
     match ty {
         Some(Ty::Real) => !local,
@@ -108,8 +109,8 @@ fn is_real_parameter(local: bool, ty: Option<Ty>) -> bool
 
 /// The name of the real parameter that an item declares alone.
 pub fn parameter_name(item: &ItemBody) -> Option<&[u8]>
-    ensures { MatchOption result (parameter_name_lem item.now ≡ None)
-        (λ name. parameter_name_lem item.now ≡ Some name.now) }
+    ensures { MatchOption result (form_spec.parameter_name item.now ≡ None)
+        (λ name. form_spec.parameter_name item.now ≡ Some name.now) }
 {
     match item {
         ItemBody::Parameters {
@@ -124,7 +125,7 @@ pub fn parameter_name(item: &ItemBody) -> Option<&[u8]>
 
 /// Whether this is the second name of a contribution.
 fn is_second(name: &Option<NameAt>, second: &[u8]) -> bool
-    ensures { result ≡ is_second_lem second.now name.now }
+    ensures { result ≡ form_spec.is_second second.now name.now }
 {
     match name {
         Some(n) => is_named(&n.name, second),
@@ -134,8 +135,8 @@ fn is_second(name: &Option<NameAt>, second: &[u8]) -> bool
 
 /// What a statement contributes to the flow of the branch between the ports.
 fn contributed<'a>(statement: &'a Stmt, first: &[u8], second: &[u8]) -> Option<&'a Expr>
-    ensures { MatchOption result (contributed_lem first.now second.now statement.now ≡ None)
-        (λ flow. contributed_lem first.now second.now statement.now ≡ Some (expression_of flow.now)) }
+    ensures { MatchOption result (form_spec.contributed first.now second.now statement.now ≡ None)
+        (λ flow. form_spec.contributed first.now second.now statement.now ≡ Some (expression_of flow.now)) }
 {
     match statement {
         Stmt::Contribute {
@@ -164,7 +165,7 @@ fn flow<'a>(item: &'a ItemBody, first: &[u8], second: &[u8]) -> Option<&'a Expr>
 
 /// Whether no item has attributes.
 fn are_bare(items: &[Item]) -> bool
-    ensures { result ≡ are_bare_lem items.now }
+    ensures { result ≡ form_spec.are_bare items.now }
 {
     for item in items {
         if !item.attributes.as_list().is_empty() {

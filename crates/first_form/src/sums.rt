@@ -3,10 +3,12 @@ ghost use Rattle.std.specs.Prelude.{◌≡◌, true, false, Contains, MatchOptio
 ghost use Rattle.c_tree.specs.declared.short.Atom.TheVariants.{Field as field};
 ghost use Rattle.c_tree.specs.declared.short.Field.TheVariants.{Param as param};
 ghost use Rattle.va_tree.specs.Expressions.{expression_of, arguments_of};
-ghost use Rattle.first_form.specs.Form.{is_arithmetic, is_potential as is_potential_lem};
+ghost use Rattle.first_form.specs.Form as form_spec;
+ghost use Rattle.first_form.specs.Form.{is_arithmetic};
 ghost use Rattle.first_form.specs.Residuals.{number_in};
 ghost use Rattle.first_form.specs.Code.{operator_of, potential_code};
-ghost use Rattle.first_form.specs.Reading.{HasWritten, is_name_of, is_name_argument as is_name_argument_lem, are_port_arguments, IsSumIn, ReadsSum};
+ghost use Rattle.first_form.specs.Reading as reading;
+ghost use Rattle.first_form.specs.Reading.{HasWritten, is_name_of, are_port_arguments, IsSumIn, ReadsSum};
 
 use crate::TranslateErr;
 use crate::code::Writer;
@@ -61,7 +63,7 @@ fn is_name(e: &Expr, name: &[u8]) -> bool
 
 /// Whether an argument is this name alone.
 fn is_name_argument(arg: &Arg, name: &[u8]) -> bool
-    ensures { result ≡ is_name_argument_lem name.now arg.now }
+    ensures { result ≡ reading.is_name_argument name.now arg.now }
 {
     match arg {
         Arg::Expr(e) => is_name(e, name),
@@ -84,7 +86,7 @@ fn are_port_names(scope: &Scope, args: &[Arg]) -> bool
 /// Whether a call is the potential between the ports.
 #[tactic(auto, using(crate::proofs::Flows::port_arguments))]
 fn is_potential(scope: &Scope, callee: Callee, access: &Name, args: &[Arg]) -> bool
-    ensures { result ≡ is_potential_lem scope.now.first.now scope.now.second.now callee access.now (arguments_of args.now) }
+    ensures { result ≡ form_spec.is_potential scope.now.first.now scope.now.second.now callee access.now (arguments_of args.now) }
 {
     match callee {
         Callee::Function => is_named(access, b"V") && are_port_names(scope, args),
