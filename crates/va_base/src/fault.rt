@@ -22,101 +22,110 @@ pub enum Phase {
     C,
 }
 
-/// Why a text is refused.
+/// Why a text is refused. Each code has its number.
 #[derive(Clone, Copy, Debug, PartialEq, Eq)]
 pub enum FaultCode {
     /// A token that is no token of the language is reached.
-    BadToken,
+    BadToken = 1,
     /// A name is used that is no macro then.
-    UnknownMacro,
+    UnknownMacro = 2,
     /// A macro's arguments have no `(` or no closing `)`, or are not as many as its formals.
-    MacroArgs,
+    MacroArgs = 3,
     /// A macro is used inside itself.
-    MacroSelf,
+    MacroSelf = 4,
     /// Too many uses of macros are open at once.
-    MacroDeep,
+    MacroDeep = 5,
     /// A directive of conditional text has no open conditional or no name, or a conditional is not closed in its file.
-    Conditional,
+    Conditional = 6,
     /// A directive is not of its form, or stands in a macro's argument or body.
-    Directive,
+    Directive = 7,
     /// The file of an include is missing.
-    MissingInclude,
+    MissingInclude = 8,
     /// Too many includes are open at once.
-    IncludeDeep,
+    IncludeDeep = 9,
     /// A file has too many bytes.
-    FileLarge,
+    FileLarge = 10,
     /// The expansion has or reads too many tokens.
-    TokensMany,
+    TokensMany = 11,
     /// No sentence begins with the tokens up to this one, and one begins with those before it.
-    Syntax,
+    Syntax = 12,
     /// A node of the tree is too deep.
-    TooDeep,
+    TooDeep = 13,
     /// A word or a string is too long.
-    TooLong,
+    TooLong = 14,
     /// The text has too many modules.
-    ModulesMany,
+    ModulesMany = 15,
     /// A name has no meaning where it stands.
-    UnknownName,
+    UnknownName = 16,
     /// A name is declared twice in one scope.
-    TwiceDeclared,
+    TwiceDeclared = 17,
     /// A name means something of another kind than it is used for.
-    WrongKind,
+    WrongKind = 18,
     /// An access name is not one of the branch's discipline.
-    WrongAccess,
+    WrongAccess = 19,
     /// The two nodes of a branch have different disciplines.
-    DisciplinesDiffer,
+    DisciplinesDiffer = 20,
     /// A port has no discipline.
-    NotDeclaredNode,
+    NotDeclaredNode = 21,
     /// A function is called from one that it reaches by calls.
-    FunctionCycle,
+    FunctionCycle = 22,
     /// What the language has and this compiler leaves out.
-    OutOfProfile,
+    OutOfProfile = 23,
     /// A function has another number of arguments.
-    ArgumentCount,
+    ArgumentCount = 24,
     /// An argument is of another kind than the function takes.
-    ArgumentKind,
+    ArgumentKind = 25,
     /// A default, a bound or an initialiser reads what it may not.
-    NotConstant,
+    NotConstant = 26,
     /// `%` has a real operand.
-    RealOperand,
+    RealOperand = 27,
     /// A time derivative stands where it is not linear.
-    DdtNonLinear,
+    DdtNonLinear = 28,
     /// A time derivative stands under a condition that depends on the solution.
-    DdtUnderBias,
+    DdtUnderBias = 29,
     /// A time derivative stands in a loop.
-    DdtInLoop,
+    DdtInLoop = 30,
     /// A time derivative stands in a function.
-    DdtInFunction,
+    DdtInFunction = 31,
     /// A time derivative stands in a time derivative.
-    DdtTwice,
+    DdtTwice = 32,
     /// A branch is neither a flow, a potential nor a collapsing branch.
-    SwitchBranch,
+    SwitchBranch = 33,
     /// The flow of a branch without potential contributions is read.
-    FlowProbe,
+    FlowProbe = 34,
     /// The flow of a collapsing branch is read.
-    CollapseProbed,
+    CollapseProbed = 35,
     /// A module has too many unknowns.
-    UnknownsMany,
+    UnknownsMany = 36,
     /// A module has too many parameters.
-    ParamsMany,
+    ParamsMany = 37,
     /// A derivative stands in a derivative.
-    DdxNested,
+    DdxNested = 38,
     /// A derivative stands where none may.
-    DdxPlace,
+    DdxPlace = 39,
     /// A noise source stands where none may.
-    NoisePlace,
+    NoisePlace = 40,
     /// A module has too many expression nodes.
-    NodesMany,
+    NodesMany = 41,
     /// A name of a point file means no module or no parameter that may be set there.
-    PointName,
+    PointName = 42,
     /// A value of a point file is not of its type, or the unknowns are not as many as the module's.
-    PointValue,
+    PointValue = 43,
     /// A byte of a C file begins no token.
-    BadByte,
+    BadByte = 44,
     /// A C file breaks a rule of form.
-    CForm,
+    CForm = 45,
     /// The text is in order so far, and of a form that this compiler does not have yet.
-    Unbuilt,
+    Unbuilt = 46,
+}
+
+/// The word that a code's name is, where these are the names of all codes.
+macro_rules! spelled {
+    ($code:expr; $($name:ident)*) => {
+        match $code {
+            $(FaultCode::$name => stringify!($name),)*
+        }
+    };
 }
 
 impl FaultCode {
@@ -124,108 +133,22 @@ impl FaultCode {
     pub fn number(self) -> u8
         ensures { result ≡ number_of_code self }
     {
-        match self {
-            FaultCode::BadToken => 1,
-            FaultCode::UnknownMacro => 2,
-            FaultCode::MacroArgs => 3,
-            FaultCode::MacroSelf => 4,
-            FaultCode::MacroDeep => 5,
-            FaultCode::Conditional => 6,
-            FaultCode::Directive => 7,
-            FaultCode::MissingInclude => 8,
-            FaultCode::IncludeDeep => 9,
-            FaultCode::FileLarge => 10,
-            FaultCode::TokensMany => 11,
-            FaultCode::Syntax => 12,
-            FaultCode::TooDeep => 13,
-            FaultCode::TooLong => 14,
-            FaultCode::ModulesMany => 15,
-            FaultCode::UnknownName => 16,
-            FaultCode::TwiceDeclared => 17,
-            FaultCode::WrongKind => 18,
-            FaultCode::WrongAccess => 19,
-            FaultCode::DisciplinesDiffer => 20,
-            FaultCode::NotDeclaredNode => 21,
-            FaultCode::FunctionCycle => 22,
-            FaultCode::OutOfProfile => 23,
-            FaultCode::ArgumentCount => 24,
-            FaultCode::ArgumentKind => 25,
-            FaultCode::NotConstant => 26,
-            FaultCode::RealOperand => 27,
-            FaultCode::DdtNonLinear => 28,
-            FaultCode::DdtUnderBias => 29,
-            FaultCode::DdtInLoop => 30,
-            FaultCode::DdtInFunction => 31,
-            FaultCode::DdtTwice => 32,
-            FaultCode::SwitchBranch => 33,
-            FaultCode::FlowProbe => 34,
-            FaultCode::CollapseProbed => 35,
-            FaultCode::UnknownsMany => 36,
-            FaultCode::ParamsMany => 37,
-            FaultCode::DdxNested => 38,
-            FaultCode::DdxPlace => 39,
-            FaultCode::NoisePlace => 40,
-            FaultCode::NodesMany => 41,
-            FaultCode::PointName => 42,
-            FaultCode::PointValue => 43,
-            FaultCode::BadByte => 44,
-            FaultCode::CForm => 45,
-            FaultCode::Unbuilt => 46,
-        }
+        self as u8
     }
 
     /// The word by which a report names the code.
     pub fn spelling(self) -> &'static str
         ensures { result.now ≡ spelling_of_code self }
     {
-        match self {
-            FaultCode::BadToken => "BadToken",
-            FaultCode::UnknownMacro => "UnknownMacro",
-            FaultCode::MacroArgs => "MacroArgs",
-            FaultCode::MacroSelf => "MacroSelf",
-            FaultCode::MacroDeep => "MacroDeep",
-            FaultCode::Conditional => "Conditional",
-            FaultCode::Directive => "Directive",
-            FaultCode::MissingInclude => "MissingInclude",
-            FaultCode::IncludeDeep => "IncludeDeep",
-            FaultCode::FileLarge => "FileLarge",
-            FaultCode::TokensMany => "TokensMany",
-            FaultCode::Syntax => "Syntax",
-            FaultCode::TooDeep => "TooDeep",
-            FaultCode::TooLong => "TooLong",
-            FaultCode::ModulesMany => "ModulesMany",
-            FaultCode::UnknownName => "UnknownName",
-            FaultCode::TwiceDeclared => "TwiceDeclared",
-            FaultCode::WrongKind => "WrongKind",
-            FaultCode::WrongAccess => "WrongAccess",
-            FaultCode::DisciplinesDiffer => "DisciplinesDiffer",
-            FaultCode::NotDeclaredNode => "NotDeclaredNode",
-            FaultCode::FunctionCycle => "FunctionCycle",
-            FaultCode::OutOfProfile => "OutOfProfile",
-            FaultCode::ArgumentCount => "ArgumentCount",
-            FaultCode::ArgumentKind => "ArgumentKind",
-            FaultCode::NotConstant => "NotConstant",
-            FaultCode::RealOperand => "RealOperand",
-            FaultCode::DdtNonLinear => "DdtNonLinear",
-            FaultCode::DdtUnderBias => "DdtUnderBias",
-            FaultCode::DdtInLoop => "DdtInLoop",
-            FaultCode::DdtInFunction => "DdtInFunction",
-            FaultCode::DdtTwice => "DdtTwice",
-            FaultCode::SwitchBranch => "SwitchBranch",
-            FaultCode::FlowProbe => "FlowProbe",
-            FaultCode::CollapseProbed => "CollapseProbed",
-            FaultCode::UnknownsMany => "UnknownsMany",
-            FaultCode::ParamsMany => "ParamsMany",
-            FaultCode::DdxNested => "DdxNested",
-            FaultCode::DdxPlace => "DdxPlace",
-            FaultCode::NoisePlace => "NoisePlace",
-            FaultCode::NodesMany => "NodesMany",
-            FaultCode::PointName => "PointName",
-            FaultCode::PointValue => "PointValue",
-            FaultCode::BadByte => "BadByte",
-            FaultCode::CForm => "CForm",
-            FaultCode::Unbuilt => "Unbuilt",
-        }
+        spelled!(self;
+            BadToken UnknownMacro MacroArgs MacroSelf MacroDeep Conditional Directive
+            MissingInclude IncludeDeep FileLarge TokensMany Syntax TooDeep TooLong ModulesMany
+            UnknownName TwiceDeclared WrongKind WrongAccess DisciplinesDiffer NotDeclaredNode
+            FunctionCycle OutOfProfile ArgumentCount ArgumentKind NotConstant RealOperand
+            DdtNonLinear DdtUnderBias DdtInLoop DdtInFunction DdtTwice SwitchBranch FlowProbe
+            CollapseProbed UnknownsMany ParamsMany DdxNested DdxPlace NoisePlace NodesMany
+            PointName PointValue BadByte CForm Unbuilt
+        )
     }
 }
 

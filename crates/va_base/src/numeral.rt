@@ -2,13 +2,15 @@
 ghost use Rattle.std.specs.Prelude.{◌-ℤ◌, ◌==◌, ◌*◌, ◌≡◌, ◌<◌, ◌≤◌, ◌+◌, ◌^◌, ℕ, ℤ, pos, Some, None, IsTrue, IfSome, IfNone, MatchOption, SomeIff, length, drop, unwrap_or};
 ghost use Rattle.std.specs.List.{position, prefix_len};
 ghost use Rattle.va_base.specs.Longest.{longest};
-ghost use Rattle.va_base.specs.Spelling.{is_digit as is_digit_lem, are_digits, is_exponent, is_tail, is_after_whole, is_numeral as is_numeral_lem, scale_power as scale_power_lem, is_sign as is_sign_lem, is_exponent_letter as is_exponent_letter_lem};
-ghost use Rattle.va_base.specs.Numerals.{number_of, digit_count, is_mantissa_byte as is_mantissa_byte_lem, mantissa_of, tail_of, fraction_of, exponent_of, tail_power as tail_power_lem, IsPower, power_limited, decimal_of};
+ghost use Rattle.va_base.specs.Spelling as spelling;
+ghost use Rattle.va_base.specs.Spelling.{are_digits, is_exponent, is_tail, is_after_whole};
+ghost use Rattle.va_base.specs.Numerals as numerals;
+ghost use Rattle.va_base.specs.Numerals.{number_of, digit_count, mantissa_of, tail_of, fraction_of, exponent_of, IsPower, power_limited, decimal_of};
 
 use crate::exact::Decimal;
 
 fn is_digit(byte: u8) -> bool
-    ensures { result ≡ is_digit_lem byte }
+    ensures { result ≡ spelling.is_digit byte }
 {
     byte.is_ascii_digit()
 }
@@ -31,7 +33,7 @@ fn digits_len(text: &[u8]) -> Option<usize>
 
 /// The power of ten of a scale factor.
 fn scale_power(letter: u8) -> Option<i128>
-    ensures { result ≡ scale_power_lem letter }
+    ensures { result ≡ spelling.scale_power letter }
 {
     match letter {
         b'T' => Some(12),
@@ -50,13 +52,13 @@ fn scale_power(letter: u8) -> Option<i128>
 }
 
 fn is_sign(byte: u8) -> bool
-    ensures { result ≡ is_sign_lem byte }
+    ensures { result ≡ spelling.is_sign byte }
 {
     byte == b'+' || byte == b'-'
 }
 
 fn is_exponent_letter(byte: u8) -> bool
-    ensures { result ≡ is_exponent_letter_lem byte }
+    ensures { result ≡ spelling.is_exponent_letter byte }
 {
     byte == b'e' || byte == b'E'
 }
@@ -115,7 +117,7 @@ fn after_whole_len(text: &[u8]) -> usize
 /// The length of the longest numeral at the front of `text`, within the limits or not, or None where none stands there.
 /// Each byte is read at most twice. It takes no memory.
 pub fn numeral_len(text: &[u8]) -> Option<usize>
-    ensures longest { result ≡ longest is_numeral_lem text.now }
+    ensures longest { result ≡ longest spelling.is_numeral text.now }
     ensures within { IfSome result (λ n. n ≤ length text.now) }
 {
     let whole = digits_len(text)?;
@@ -148,14 +150,14 @@ fn number(bytes: &[u8]) -> Option<u128>
 }
 
 fn is_mantissa_byte(byte: u8) -> bool
-    ensures { result ≡ is_mantissa_byte_lem byte }
+    ensures { result ≡ numerals.is_mantissa_byte byte }
 {
     is_digit(byte) || byte == b'_' || byte == b'.'
 }
 
 /// How many bytes the digits of a numeral have, with its point.
 fn mantissa_len(bytes: &[u8]) -> usize
-    ensures length { result ≡ prefix_len is_mantissa_byte_lem bytes.now }
+    ensures length { result ≡ prefix_len numerals.is_mantissa_byte bytes.now }
     ensures within { result ≤ length bytes.now }
 {
     for (at, byte) in bytes.iter().enumerate() {
@@ -228,7 +230,7 @@ fn exponent(text: &[u8]) -> Option<i128>
 
 /// The power of ten of a tail, or None where its size is not below the limit.
 fn tail_power(tail: &[u8]) -> Option<i128>
-    ensures { IsPower result (tail_power_lem tail.now) }
+    ensures { IsPower result (numerals.tail_power tail.now) }
 {
     let Some((first, rest)) = tail.split_first() else {
         return Some(0);
@@ -255,13 +257,13 @@ fn power_within(power: i128) -> Option<i32>
 
 /// The power of a numeral with this tail and so many digits after the point, where it lies within the limits.
 fn power(tail: &[u8], fraction: usize) -> Option<i32>
-    ensures { result ≡ power_limited (tail_power_lem tail.now -ℤ pos fraction) }
+    ensures { result ≡ power_limited (numerals.tail_power tail.now -ℤ pos fraction) }
 {
     power_within(tail_power(tail)? - fraction as i128)
 }
 
 fn is_numeral(bytes: &[u8]) -> bool
-    ensures { result ≡ is_numeral_lem bytes.now }
+    ensures { result ≡ spelling.is_numeral bytes.now }
 {
     numeral_len(bytes) == Some(bytes.len())
 }
