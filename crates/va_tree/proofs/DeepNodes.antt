@@ -4,7 +4,7 @@ use Rattle.std.proofs.Common.{ap, sym, ◌∙◌, subst, arith, append_assoc, in
 use Rattle.std.proofs.lemmas.List.Elements.{Contains-append_left, Contains-append_right, Contains-append_cases, Contains-push, Contains-push_cases}
 use Rattle.va_tree.specs.declared.source.Source.{Source}
 use Rattle.va_tree.specs.Declarations.{declared}
-use Rattle.va_tree.specs.DepthLimit.{StandIn, At501, IsInOrder, DepthLimit}
+use Rattle.va_tree.specs.DepthLimit.{At501, IsInOrder, DepthLimit}
 use Rattle.va_tree.specs.Expressions.{Expression, Arguments, literal, infinity, name, group, unary, binary, choose, call, no_more, text_then, expression_then}
 use Rattle.va_tree.specs.Nodes.{Node, node, nodes_of, nodes_of_arguments, nodes_of_statement, nodes_of_statements, nodes_of_items, nodes_of_defaults, nodes_of_part, nodes_of_source}
 use Rattle.va_tree.specs.Parts.{Part, expression, statement, parts_of}

@@ -1,4 +1,1 @@
-pub mod Capped
-pub mod Deepest
-pub mod NodeCount
 pub mod DeepNodes

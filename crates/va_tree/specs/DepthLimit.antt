@@ -1,5 +1,5 @@
 -- What it means that no node has the depth 501.
-use Rattle.std.specs.Prelude.{◌≡◌, ◌<◌, ◌≤◌, ◌↔◌, ℕ, List, [], ◌∷◌, ◌++◌, Contains}
+use Rattle.std.specs.Prelude.{◌≡◌, ◌<◌, ◌≤◌, ◌↔◌, ℕ, List, ◌∷◌, ◌++◌, Contains}
 use Rattle.va_tree.specs.declared.source.Source.{Source}
 use Rattle.va_tree.specs.Nodes.{Node, node, nodes_of_source}
 

@@ -36,8 +36,6 @@ expression-Choose at test a b = refl
 pub expression-Call : (at : ℕ) (callee : Callee) (bytes : List ℕ) (args : List Arg) → expression_of (Call at callee bytes args) ≡ call at callee bytes (arguments_of args)
 expression-Call at callee bytes args = ap (call at callee bytes) (arguments_listed (hidden-the_row-Arg-1 args) ∙ ap arguments_of (items_hidden-the_row-Arg-1 args))
 
-pub ruleset expression_laws = (expression-Group, expression-Unary, expression-Binary, expression-Choose, expression-Call)
-
 pub at_group : (e : Expr) (at : ℕ) (inner inner' : Expr) → e ≡ Group at inner → inner ≡ inner' → expression_of e ≡ group at (expression_of inner')
 at_group e at inner inner' h p = ap expression_of h ∙ expression-Group at inner ∙ (λ j. group at (expression_of (p j)))
 

@@ -1,5 +1,4 @@
 pub mod Declarations
-pub mod Depths
 pub mod ExpressionLaws
 pub mod Expressions
 pub mod Nodes

@@ -1,13 +1,10 @@
 -- The expressions of a tree in pre-order: each before those in it, and those from left to right. Strings are none.
-use Rattle.std.specs.Prelude.{ℕ, Bool, true, false, List, [], ◌∷◌, ◌++◌, Option, Some, None, flat_map, count_by}
-use Rattle.va_tree.specs.Expressions.{Expression, Arguments, literal, infinity, name, group, unary, binary, choose, call, no_more, text_then, expression_then, expression_of}
+use Rattle.std.specs.Prelude.{ℕ, Bool, true, false, List, [], ◌∷◌, ◌++◌, flat_map, count_by}
+use Rattle.va_tree.specs.Expressions.{Expression, Arguments, literal, infinity, name, group, unary, binary, choose, call, no_more, text_then, expression_then}
 use Rattle.va_tree.specs.Declarations.{declared}
 use Rattle.va_tree.specs.declared.source.Source.{Source}
-use Rattle.va_tree.specs.declared.stmt.Stmt.{Stmt}
-use Rattle.va_tree.specs.declared.expr.Arg.{Arg}
-use Rattle.va_tree.specs.declared.expr.Arg.TheVariants as arg
 use Rattle.va_tree.specs.Parts.{Part, expression, statement, parts_of}
-use Rattle.va_tree.specs.Statements.{Statement, Statements, Items, Defaults, null, block, only_if, if_else, cases, for_loop, while_loop, repeat_loop, event, assign, contribute, task, no_more as no_statement, statement_then, no_items, item_then, no_defaults, default_then, statement_of}
+use Rattle.va_tree.specs.Statements.{Statement, Statements, Items, Defaults, null, block, only_if, if_else, cases, for_loop, while_loop, repeat_loop, event, assign, contribute, task, no_more as no_statement, statement_then, no_items, item_then, no_defaults, default_then}
 
 abbrev mutual
   -- an expression and those in it
@@ -68,16 +65,6 @@ is_node (call at callee bytes args) = true
 -- how many of some expressions are no parentheses
 abbrev pub node_count : List Expression → ℕ
 node_count = count_by is_node
-
--- the expressions of an argument; a string has none
-abbrev pub expressions_in_argument : Arg → List Expression
-expressions_in_argument (arg.Text text) = []
-expressions_in_argument (arg.Expr e) = expressions_in (expression_of e)
-
--- the expressions of the statement of an `else`, and none where there is none
-abbrev pub expressions_of_else : Option Stmt → List Expression
-expressions_of_else None = []
-expressions_of_else (Some s) = expressions_of_statement (statement_of s)
 
 -- the expressions of an outermost statement or expression
 abbrev pub expressions_of_part : Part → List Expression

@@ -57,8 +57,6 @@ pub statement-Event : (at : ℕ) (kind : EventKind) (analyses : List NameAt) (bo
 unfolding hidden-the_row-Stmt-1 shape-the_row-Stmt-1 C.hidden
 statement-Event at kind analyses body = refl
 
-pub ruleset statement_laws = (statement-Block, statement-If, statement-Case, statement-For, statement-While, statement-Repeat, statement-Event)
-
 pub at_block : (s : Stmt) (at : ℕ) (label : Option NameAt) (declarations : List Declaration) (body : List Stmt) (declarations' : List Declaration) (body' : List Stmt) → s ≡ Block at label declarations body → declarations ≡ declarations' → body ≡ body' → statement_of s ≡ block at label declarations' (statements_of body')
 at_block s at label declarations body declarations' body' h p q = ap statement_of h ∙ statement-Block at label declarations body ∙ (λ j. block at label (p j) (statements_of (q j)))
 

@@ -12,7 +12,6 @@ use Rattle.va_tree.specs.declared.module.Variable.{Variable}
 use Rattle.va_tree.specs.declared.module.Ty.TheVariants.{Real}
 use Rattle.va_tree.specs.Expressions.{Expression, literal, unary, binary, no_more, text_then, expression_then}
 use Rattle.va_tree.specs.Statements.{Statement, null, assign, only_if, if_else, cases, for_loop, block, task, no_more as no_statement, statement_then, no_items, item_then, no_defaults, default_then}
-use Rattle.va_tree.specs.Depths.{depth_of_statement}
 use Rattle.va_tree.specs.Nodes.{node, nodes_of_statement}
 use Rattle.va_tree.specs.Preorder.{expressions_of_statement}
 use Rattle.va_tree.specs.Size.{counted_len}
@@ -68,11 +67,6 @@ pub record WorkedNodes : Type 0 where
   pub heads_are_no_statements : nodes_of_statement 1 counting ≡ node 0 1 ∷ node 4 2 ∷ node 6 2 ∷ node 10 2 ∷ node 11 3 ∷ node 13 2 ∷ []
   -- an initialiser is one deeper than its block
   pub initialiser_in_block : nodes_of_statement 1 labelled ≡ node 0 1 ∷ node 6 2 ∷ node 8 2 ∷ []
-  -- the deepest node's depth
-  pub depth_of_precedence : depth_of_statement sum_and_product ≡ 4
-  pub depth_of_chain : depth_of_statement chain ≡ 4
-  pub depth_of_else_if : depth_of_statement else_if ≡ 3
-  pub depth_of_default : depth_of_statement default_first ≡ 3
   -- the expressions of a default come after all others of its `case`
   pub expressions_of_default_last : expressions_of_statement default_first ≡ one 2 ∷ one 13 ∷ one 10 ∷ []
   -- the `\` of an escaped word and the quotes of a string do not count, and a system name has no limit

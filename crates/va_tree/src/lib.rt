@@ -6,8 +6,6 @@
 //! parentheses after the name of a module, of a task or of a system function.
 #![tactic(auto)]
 
-pub mod count;
-pub mod depth;
 pub mod expr;
 pub mod limit;
 pub mod module;
