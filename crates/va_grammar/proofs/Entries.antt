@@ -1,5 +1,5 @@
 -- The table of rows holds the rows that are chosen.
-use Rattle.std.specs.Prelude.{ℕ, ◌≡◌, ◌<◌, ◌+◌, suc, Bool, true, false, ◌&&◌, if◌then◌else◌, nat_eq, nat_lt, List, [], ◌∷◌, Option, Some, None, refl, slice_get, length}
+use Rattle.std.specs.Prelude.{ℕ, ◌≡◌, ◌<◌, ◌+◌, suc, Bool, true, false, ◌&&◌, if◌then◌else◌, nat_eq, nat_lt, List, [], ◌∷◌, Option, Some, None, refl, slice_get, length, get_or}
 use Rattle.std.specs.List.{list_all}
 use Rattle.std.proofs.Common.{sym, ap, subst, ◌∙◌, inl, inr, arith, eqb-true, ltb-true, zero-add, add-zero}
 use Rattle.std.proofs.lemmas.Bool.{and_parts, cases_Bool}
@@ -7,7 +7,7 @@ use Rattle.predict.specs.Table.{Row, is_among, chosen, one_more}
 use Rattle.va_grammar.specs.Cells.{row_of}
 use Rattle.predict.specs.FirstFit.{IsFirstFit, NoneFits}
 use Rattle.va_grammar.specs.Sets.{va_grammar, va_rules, va_table}
-use Rattle.va_grammar.specs.declared.row_at.TheConstants.{ROW_AT}
+use Rattle.va_grammar.specs.declared.tables.TheConstants.{FIRST_ROWS, ROW_AT}
 use Rattle.predict.proofs.Lists.{at_each, each_told, among_passes}
 use Rattle.va_grammar.proofs.VaFits.{va_first_fit, va_none_fits}
 
@@ -67,12 +67,16 @@ same_told None (Some j) h = cc
 same_told (Some i) None h = cc
 same_told (Some i) (Some j) h = ap Some (eqb-true i j h)
 
-abbrev cell_passes : List Candidate → ℕ → ℕ → Bool
-cell_passes cs k cell = same_row (row_of cell) (first_in cs k)
+abbrev cell_passes : List Candidate → ℕ → ℕ → ℕ → Bool
+cell_passes cs first_row k cell = same_row (row_of first_row cell) (first_in cs k)
+
+-- the number of the first row of a nonterminal
+abbrev pub first_row_of : ℕ → ℕ
+first_row_of left = get_or FIRST_ROWS left 0
 
 -- a line of the table has a cell for each kind, with the row that is chosen
 abbrev line_passes : List Row → ℕ → List ℕ → Bool
-line_passes rows left line = let cs = candidates rows left 0 in nat_eq (length line) 70 && at_each (cell_passes cs) 0 line
+line_passes rows left line = nat_eq (length line) 70 && at_each (cell_passes (candidates rows left 0) (first_row_of left)) 0 line
 
 -- a row is one of a nonterminal of the table, at kinds of the table
 abbrev in_table : Row → Bool
@@ -100,22 +104,28 @@ nothing_outside (row ∷ rows) left k h out =
       | inr e ↦ subst (λ b. (if b then Some 0 else one_more (chosen rows left k)) ≡ None) (sym e) (ap one_more rest)
     ]
 
+-- the test that the line of a nonterminal passed
+abbrev cells_pass : ℕ → List ℕ → Bool
+cells_pass left = at_each (cell_passes (candidates va_table.rows left 0) (first_row_of left)) 0
+
+line_told : (left : ℕ) (line : List ℕ) → slice_get ROW_AT left ≡ Some line → (nat_eq (length line) 70 ≡ true) × (cells_pass left line ≡ true)
+line_told left line at_left =
+    and_parts (nat_eq (length line) 70) (cells_pass left line)
+    (each_told (line_passes va_table.rows) 0 ROW_AT left left line lines_pass at_left (zero-add left))
+
 -- what a line of the table holds at a kind
-pub entry_chosen : (left k cell : ℕ) (line : List ℕ) → slice_get ROW_AT left ≡ Some line → slice_get line k ≡ Some cell → row_of cell ≡ va_rules.row_at left k
+pub entry_chosen : (left k cell : ℕ) (line : List ℕ) → slice_get ROW_AT left ≡ Some line → slice_get line k ≡ Some cell →
+    row_of (first_row_of left) cell ≡ va_rules.row_at left k
 unfolding va_rules
 entry_chosen left k cell line at_left at_kind =
-    let p = each_told (line_passes va_table.rows) 0 ROW_AT left left line lines_pass at_left (zero-add left) in
     let cs = candidates va_table.rows left 0 in
-    let q = and_parts (nat_eq (length line) 70) (at_each (cell_passes cs) 0 line) p in
-    let r = each_told (cell_passes cs) 0 line k k cell q.1 at_kind (zero-add k) in
-    same_told (row_of cell) (first_in cs k) r ∙ candidates_chosen va_table.rows left k 0 ∙ unshifted (chosen va_table.rows left k)
+    let passes = each_told (cell_passes cs (first_row_of left)) 0 line k k cell (line_told left line at_left).1 at_kind (zero-add k) in
+    same_told (row_of (first_row_of left) cell) (first_in cs k) passes
+    ∙ candidates_chosen va_table.rows left k 0
+    ∙ unshifted (chosen va_table.rows left k)
 
 pub line_length : (left : ℕ) (line : List ℕ) → slice_get ROW_AT left ≡ Some line → length line ≡ 70
-line_length left line at_left =
-    let p = each_told (line_passes va_table.rows) 0 ROW_AT left left line lines_pass at_left (zero-add left) in
-    let cs = candidates va_table.rows left 0 in
-    let q = and_parts (nat_eq (length line) 70) (at_each (cell_passes cs) 0 line) p in
-    eqb-true (length line) 70 q.0
+line_length left line at_left = eqb-true (length line) 70 (line_told left line at_left).0
 
 pub none_outside : (left k : ℕ) → ((left < 79) → (k < 70) → ⊥) → None ≡ va_rules.row_at left k
 unfolding va_rules

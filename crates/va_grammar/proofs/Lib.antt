@@ -4,3 +4,4 @@ pub mod Entries
 pub mod VaSymbols
 pub mod KindsEnd
 pub mod Spellings
+pub mod SpelledAt

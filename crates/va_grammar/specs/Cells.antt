@@ -1,6 +1,7 @@
 -- The cells of the table of rows.
-use Rattle.std.specs.Prelude.{ℕ, nat_eq, if◌then◌else◌, Option, Some, None}
+use Rattle.std.specs.Prelude.{ℕ, ◌+◌, ◌-◌, if◌then◌else◌, Option, Some, None}
+use Rattle.va_base.specs.Spelling.{is_digit}
 
--- the row that a cell names, if any
-abbrev pub row_of : ℕ → Option ℕ
-row_of cell = if nat_eq cell 255 then None else Some cell
+-- The row that a cell tells, if any: a digit is a row's place behind the first row of its nonterminal.
+abbrev pub row_of : ℕ → ℕ → Option ℕ
+row_of first_row cell = if is_digit cell then Some (first_row + (cell - 48)) else None

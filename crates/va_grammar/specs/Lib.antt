@@ -3,7 +3,9 @@ pub mod Nonterminals
 pub mod Parts
 pub mod Cells
 pub mod Rows
+pub mod KindSets
 pub mod Sets
+pub mod Witnesses
 pub mod Evidence
 pub mod VaLaws
 pub mod Kinds

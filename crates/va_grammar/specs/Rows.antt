@@ -1,5 +1,6 @@
 -- The rows of the grammar of Verilog-A, as they are written: the syntax of the reference manual, left-factored so that the next
 -- token tells the row. Binary operators associate to the left: a tail lists the operators and operands behind the first.
+-- Made by `tools/grammar_tables` from `tools/grammar/verilog_a.txt`; edit that file.
 use Rattle.std.specs.Prelude.{List, [], ◌∷◌}
 use Rattle.predict.specs.declared.symbol.Symbol.{Symbol}
 use Rattle.predict.specs.declared.symbol.Symbol.TheVariants.{Kind, Left}
@@ -41,7 +42,8 @@ rows =
     row AttributeValue [] ∷
     row Argument (token Text ∷ []) ∷
     row Argument (rule Expression ∷ []) ∷
-    row NatureDeclaration (token Nature ∷ token Name ∷ rule ParentNature ∷ rule OptionalSemicolon ∷ rule NatureItems ∷ token Endnature ∷ []) ∷
+    row NatureDeclaration (token Nature ∷ token Name ∷ rule ParentNature ∷ rule OptionalSemicolon ∷ rule NatureItems ∷
+    token Endnature ∷ []) ∷
     row ParentNature (token Colon ∷ token Name ∷ []) ∷
     row ParentNature [] ∷
     row OptionalSemicolon (token Semicolon ∷ []) ∷
@@ -68,7 +70,8 @@ rows =
     row Item (rule Attributes ∷ rule ItemBody ∷ []) ∷
     row ItemBody (rule Direction ∷ token Name ∷ rule DirectionTail ∷ token Semicolon ∷ []) ∷
     row ItemBody (token Name ∷ token Name ∷ rule MoreNames ∷ token Semicolon ∷ []) ∷
-    row ItemBody (token Branch ∷ token LeftParenthesis ∷ token Name ∷ rule SecondNode ∷ token RightParenthesis ∷ token Name ∷ rule MoreNames ∷ token Semicolon ∷ []) ∷
+    row ItemBody (token Branch ∷ token LeftParenthesis ∷ token Name ∷ rule SecondNode ∷ token RightParenthesis ∷ token Name ∷
+    rule MoreNames ∷ token Semicolon ∷ []) ∷
     row ItemBody (token Parameter ∷ rule OptionalType ∷ rule ParameterAssignments ∷ token Semicolon ∷ []) ∷
     row ItemBody (token Localparam ∷ rule OptionalType ∷ rule ParameterAssignments ∷ token Semicolon ∷ []) ∷
     row ItemBody (token Aliasparam ∷ token Name ∷ token Assign ∷ token Name ∷ token Semicolon ∷ []) ∷
@@ -108,7 +111,8 @@ rows =
     row Variable (token Name ∷ rule Initialiser ∷ []) ∷
     row Initialiser (token Assign ∷ rule Expression ∷ []) ∷
     row Initialiser [] ∷
-    row AnalogItem (token Function ∷ rule OptionalType ∷ token Name ∷ token Semicolon ∷ rule FunctionItems ∷ rule Statement ∷ token Endfunction ∷ []) ∷
+    row AnalogItem (token Function ∷ rule OptionalType ∷ token Name ∷ token Semicolon ∷ rule FunctionItems ∷ rule Statement ∷
+    token Endfunction ∷ []) ∷
     row AnalogItem (rule Statement ∷ []) ∷
     row FunctionItems (rule FunctionItem ∷ rule FunctionItems ∷ []) ∷
     row FunctionItems [] ∷
@@ -118,7 +122,8 @@ rows =
     row Statement (token Begin ∷ rule Label ∷ rule Declarations ∷ rule Statements ∷ token End ∷ []) ∷
     row Statement (token If ∷ token LeftParenthesis ∷ rule Expression ∷ token RightParenthesis ∷ rule Statement ∷ rule ElseBranch ∷ []) ∷
     row Statement (token Case ∷ token LeftParenthesis ∷ rule Expression ∷ token RightParenthesis ∷ rule CaseItems ∷ token Endcase ∷ []) ∷
-    row Statement (token For ∷ token LeftParenthesis ∷ token Name ∷ token Assign ∷ rule Expression ∷ token Semicolon ∷ rule Expression ∷ token Semicolon ∷ token Name ∷ token Assign ∷ rule Expression ∷ token RightParenthesis ∷ rule Statement ∷ []) ∷
+    row Statement (token For ∷ token LeftParenthesis ∷ token Name ∷ token Assign ∷ rule Expression ∷ token Semicolon ∷ rule Expression ∷
+    token Semicolon ∷ token Name ∷ token Assign ∷ rule Expression ∷ token RightParenthesis ∷ rule Statement ∷ []) ∷
     row Statement (token While ∷ token LeftParenthesis ∷ rule Expression ∷ token RightParenthesis ∷ rule Statement ∷ []) ∷
     row Statement (token Repeat ∷ token LeftParenthesis ∷ rule Expression ∷ token RightParenthesis ∷ rule Statement ∷ []) ∷
     row Statement (token At ∷ token LeftParenthesis ∷ rule Event ∷ token RightParenthesis ∷ rule Statement ∷ []) ∷
@@ -150,7 +155,8 @@ rows =
     row MoreEventArguments (token Comma ∷ token Text ∷ rule MoreEventArguments ∷ []) ∷
     row MoreEventArguments [] ∷
     row StatementRest (token Assign ∷ rule Expression ∷ token Semicolon ∷ []) ∷
-    row StatementRest (token LeftParenthesis ∷ token Name ∷ rule SecondNode ∷ token RightParenthesis ∷ token Contribute ∷ rule Expression ∷ token Semicolon ∷ []) ∷
+    row StatementRest (token LeftParenthesis ∷ token Name ∷ rule SecondNode ∷ token RightParenthesis ∷ token Contribute ∷ rule Expression ∷
+    token Semicolon ∷ []) ∷
     row TaskArguments (token LeftParenthesis ∷ rule Arguments ∷ token RightParenthesis ∷ []) ∷
     row TaskArguments [] ∷
     row Arguments (rule Argument ∷ rule MoreArguments ∷ []) ∷

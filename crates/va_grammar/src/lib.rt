@@ -3,8 +3,8 @@
 
 pub mod nonterminal;
 pub mod row;
-pub mod row_at;
 pub mod rows;
+pub mod tables;
 pub mod terminal;
 pub mod token_kinds;
 pub mod va_rows;

@@ -1,4 +1,6 @@
 //! Nonterminals.
+//!
+//! Made by `tools/grammar_tables` from `tools/grammar/verilog_a.txt`; edit that file.
 ghost use Rattle.std.specs.Prelude.{◌≡◌};
 ghost use Rattle.va_grammar.specs.Nonterminals.{nonterminal_number};
 

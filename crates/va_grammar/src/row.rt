@@ -1,521 +1,350 @@
-//! The numbers of the rows, by name. A row's number is its place among the written rows, counted from 0 (see
-//! `specs/Rows.antt`).
+//! The numbers of the rows, by name. A row's number is its place among the written rows, counted from 0.
+//!
+//! Made by `tools/grammar_tables` from `tools/grammar/verilog_a.txt`; edit that file.
 
-/// Source: TopItem Source
+/// `Source = TopItem Source`
 pub const TOP_ITEMS: u16 = 0;
-
-/// Source: nothing
+/// `Source =`
 pub const NO_TOP_ITEMS: u16 = 1;
-
-/// TopItem: Attributes TopItemBody
+/// `TopItem = Attributes TopItemBody`
 pub const TOP_ITEM: u16 = 2;
-
-/// TopItemBody: NatureDeclaration
+/// `TopItemBody = NatureDeclaration`
 pub const TOP_NATURE: u16 = 3;
-
-/// TopItemBody: DisciplineDeclaration
+/// `TopItemBody = DisciplineDeclaration`
 pub const TOP_DISCIPLINE: u16 = 4;
-
-/// TopItemBody: ModuleDeclaration
+/// `TopItemBody = ModuleDeclaration`
 pub const TOP_MODULE: u16 = 5;
-
-/// Attributes: `(*` Attribute MoreAttributes `*)` Attributes
+/// `Attributes = (* Attribute MoreAttributes *) Attributes`
 pub const ATTRIBUTES: u16 = 6;
-
-/// Attributes: nothing
+/// `Attributes =`
 pub const NO_ATTRIBUTES: u16 = 7;
-
-/// MoreAttributes: `,` Attribute MoreAttributes
+/// `MoreAttributes = , Attribute MoreAttributes`
 pub const MORE_ATTRIBUTES: u16 = 8;
-
-/// MoreAttributes: nothing
+/// `MoreAttributes =`
 pub const NO_MORE_ATTRIBUTES: u16 = 9;
-
-/// Attribute: name AttributeValue
+/// `Attribute = <name> AttributeValue`
 pub const ATTRIBUTE: u16 = 10;
-
-/// AttributeValue: `=` Argument
+/// `AttributeValue = = Argument`
 pub const ATTRIBUTE_VALUE: u16 = 11;
-
-/// AttributeValue: nothing
+/// `AttributeValue =`
 pub const NO_ATTRIBUTE_VALUE: u16 = 12;
-
-/// Argument: text
+/// `Argument = <text>`
 pub const TEXT_ARGUMENT: u16 = 13;
-
-/// Argument: Expression
+/// `Argument = Expression`
 pub const ARGUMENT: u16 = 14;
-
-/// NatureDeclaration: `nature` name ParentNature OptionalSemicolon NatureItems `endnature`
+/// `NatureDeclaration = nature <name> ParentNature OptionalSemicolon NatureItems endnature`
 pub const NATURE: u16 = 15;
-
-/// ParentNature: `:` name
+/// `ParentNature = : <name>`
 pub const PARENT: u16 = 16;
-
-/// ParentNature: nothing
+/// `ParentNature =`
 pub const NO_PARENT: u16 = 17;
-
-/// OptionalSemicolon: `;`
+/// `OptionalSemicolon = ;`
 pub const SEMICOLON: u16 = 18;
-
-/// OptionalSemicolon: nothing
+/// `OptionalSemicolon =`
 pub const NO_SEMICOLON: u16 = 19;
-
-/// NatureItems: name `=` Argument `;` NatureItems
+/// `NatureItems = <name> = Argument ; NatureItems`
 pub const NATURE_ITEMS: u16 = 20;
-
-/// NatureItems: nothing
+/// `NatureItems =`
 pub const NO_NATURE_ITEMS: u16 = 21;
-
-/// DisciplineDeclaration: `discipline` name OptionalSemicolon DisciplineItems `enddiscipline`
+/// `DisciplineDeclaration = discipline <name> OptionalSemicolon DisciplineItems enddiscipline`
 pub const DISCIPLINE: u16 = 22;
-
-/// DisciplineItems: DisciplineItem DisciplineItems
+/// `DisciplineItems = DisciplineItem DisciplineItems`
 pub const DISCIPLINE_ITEMS: u16 = 23;
-
-/// DisciplineItems: nothing
+/// `DisciplineItems =`
 pub const NO_DISCIPLINE_ITEMS: u16 = 24;
-
-/// DisciplineItem: `potential` NatureBinding
+/// `DisciplineItem = potential NatureBinding`
 pub const POTENTIAL: u16 = 25;
-
-/// DisciplineItem: `flow` NatureBinding
+/// `DisciplineItem = flow NatureBinding`
 pub const FLOW: u16 = 26;
-
-/// DisciplineItem: `domain` name `;`
+/// `DisciplineItem = domain <name> ;`
 pub const DOMAIN: u16 = 27;
-
-/// NatureBinding: name `;`
+/// `NatureBinding = <name> ;`
 pub const BINDING: u16 = 28;
-
-/// NatureBinding: `.` name `=` Argument `;`
+/// `NatureBinding = . <name> = Argument ;`
 pub const OVERRIDE: u16 = 29;
-
-/// ModuleDeclaration: `module` name Ports `;` Items `endmodule`
+/// `ModuleDeclaration = module <name> Ports ; Items endmodule`
 pub const MODULE: u16 = 30;
-
-/// Ports: `(` PortList `)`
+/// `Ports = ( PortList )`
 pub const PORTS: u16 = 31;
-
-/// Ports: nothing
+/// `Ports =`
 pub const NO_PORTS: u16 = 32;
-
-/// PortList: name MoreNames
+/// `PortList = <name> MoreNames`
 pub const PORT_LIST: u16 = 33;
-
-/// PortList: nothing
+/// `PortList =`
 pub const NO_PORT_LIST: u16 = 34;
-
-/// MoreNames: `,` name MoreNames
+/// `MoreNames = , <name> MoreNames`
 pub const MORE_NAMES: u16 = 35;
-
-/// MoreNames: nothing
+/// `MoreNames =`
 pub const NO_MORE_NAMES: u16 = 36;
-
-/// Items: Item Items
+/// `Items = Item Items`
 pub const ITEMS: u16 = 37;
-
-/// Items: nothing
+/// `Items =`
 pub const NO_ITEMS: u16 = 38;
-
-/// Item: Attributes ItemBody
+/// `Item = Attributes ItemBody`
 pub const ITEM: u16 = 39;
-
-/// ItemBody: Direction name DirectionTail `;`
+/// `ItemBody = Direction <name> DirectionTail ;`
 pub const DIRECTION_ITEM: u16 = 40;
-
-/// ItemBody: name name MoreNames `;`
+/// `ItemBody = <name> <name> MoreNames ;`
 pub const NODES: u16 = 41;
-
-/// ItemBody: `branch` `(` name SecondNode `)` name MoreNames `;`
+/// `ItemBody = branch ( <name> SecondNode ) <name> MoreNames ;`
 pub const BRANCH: u16 = 42;
-
-/// ItemBody: `parameter` OptionalType ParameterAssignments `;`
+/// `ItemBody = parameter OptionalType ParameterAssignments ;`
 pub const PARAMETERS: u16 = 43;
-
-/// ItemBody: `localparam` OptionalType ParameterAssignments `;`
+/// `ItemBody = localparam OptionalType ParameterAssignments ;`
 pub const LOCAL_PARAMETERS: u16 = 44;
-
-/// ItemBody: `aliasparam` name `=` name `;`
+/// `ItemBody = aliasparam <name> = <name> ;`
 pub const ALIAS: u16 = 45;
-
-/// ItemBody: `real` Variables `;`
+/// `ItemBody = real Variables ;`
 pub const REAL_VARIABLES: u16 = 46;
-
-/// ItemBody: `integer` Variables `;`
+/// `ItemBody = integer Variables ;`
 pub const INTEGER_VARIABLES: u16 = 47;
-
-/// ItemBody: `analog` AnalogItem
+/// `ItemBody = analog AnalogItem`
 pub const ANALOG: u16 = 48;
-
-/// Direction: `input`
+/// `Direction = input`
 pub const INPUT: u16 = 49;
-
-/// Direction: `output`
+/// `Direction = output`
 pub const OUTPUT: u16 = 50;
-
-/// Direction: `inout`
+/// `Direction = inout`
 pub const INOUT: u16 = 51;
-
-/// DirectionTail: name MoreNames
+/// `DirectionTail = <name> MoreNames`
 pub const DIRECTED_DISCIPLINE: u16 = 52;
-
-/// DirectionTail: MoreNames
+/// `DirectionTail = MoreNames`
 pub const DIRECTED_NAMES: u16 = 53;
-
-/// SecondNode: `,` name
+/// `SecondNode = , <name>`
 pub const SECOND_NODE: u16 = 54;
-
-/// SecondNode: nothing
+/// `SecondNode =`
 pub const NO_SECOND_NODE: u16 = 55;
-
-/// OptionalType: `real`
+/// `OptionalType = real`
 pub const REAL_TYPE: u16 = 56;
-
-/// OptionalType: `integer`
+/// `OptionalType = integer`
 pub const INTEGER_TYPE: u16 = 57;
-
-/// OptionalType: nothing
+/// `OptionalType =`
 pub const NO_TYPE: u16 = 58;
-
-/// ParameterAssignments: ParameterAssignment MoreParameterAssignments
+/// `ParameterAssignments = ParameterAssignment MoreParameterAssignments`
 pub const PARAMETER_LIST: u16 = 59;
-
-/// MoreParameterAssignments: `,` ParameterAssignment MoreParameterAssignments
+/// `MoreParameterAssignments = , ParameterAssignment MoreParameterAssignments`
 pub const MORE_PARAMETERS: u16 = 60;
-
-/// MoreParameterAssignments: nothing
+/// `MoreParameterAssignments =`
 pub const NO_MORE_PARAMETERS: u16 = 61;
-
-/// ParameterAssignment: name `=` Expression Ranges
+/// `ParameterAssignment = <name> = Expression Ranges`
 pub const PARAMETER: u16 = 62;
-
-/// Ranges: `from` Interval Ranges
+/// `Ranges = from Interval Ranges`
 pub const FROM: u16 = 63;
-
-/// Ranges: `exclude` Exclusion Ranges
+/// `Ranges = exclude Exclusion Ranges`
 pub const EXCLUDE: u16 = 64;
-
-/// Ranges: nothing
+/// `Ranges =`
 pub const NO_RANGES: u16 = 65;
-
-/// Interval: LowerBracket Expression `:` Expression UpperBracket
+/// `Interval = LowerBracket Expression : Expression UpperBracket`
 pub const INTERVAL: u16 = 66;
-
-/// LowerBracket: `[`
+/// `LowerBracket = [`
 pub const LOWER_SQUARE: u16 = 67;
-
-/// LowerBracket: `(`
+/// `LowerBracket = (`
 pub const LOWER_ROUND: u16 = 68;
-
-/// UpperBracket: `]`
+/// `UpperBracket = ]`
 pub const UPPER_SQUARE: u16 = 69;
-
-/// UpperBracket: `)`
+/// `UpperBracket = )`
 pub const UPPER_ROUND: u16 = 70;
-
-/// Exclusion: `[` Expression `:` Expression UpperBracket
+/// `Exclusion = [ Expression : Expression UpperBracket`
 pub const EXCLUDED_SQUARE: u16 = 71;
-
-/// Exclusion: `(` Expression ExclusionRest
+/// `Exclusion = ( Expression ExclusionRest`
 pub const EXCLUDED_ROUND: u16 = 72;
-
-/// Exclusion: Expression
+/// `Exclusion = Expression`
 pub const EXCLUDED_VALUE: u16 = 73;
-
-/// ExclusionRest: `:` Expression UpperBracket
+/// `ExclusionRest = : Expression UpperBracket`
 pub const EXCLUDED_TO: u16 = 74;
-
-/// ExclusionRest: `)`
+/// `ExclusionRest = )`
 pub const EXCLUDED_SINGLE: u16 = 75;
-
-/// Variables: Variable MoreVariables
+/// `Variables = Variable MoreVariables`
 pub const VARIABLES: u16 = 76;
-
-/// MoreVariables: `,` Variable MoreVariables
+/// `MoreVariables = , Variable MoreVariables`
 pub const MORE_VARIABLES: u16 = 77;
-
-/// MoreVariables: nothing
+/// `MoreVariables =`
 pub const NO_MORE_VARIABLES: u16 = 78;
-
-/// Variable: name Initialiser
+/// `Variable = <name> Initialiser`
 pub const VARIABLE: u16 = 79;
-
-/// Initialiser: `=` Expression
+/// `Initialiser = = Expression`
 pub const INITIALISER: u16 = 80;
-
-/// Initialiser: nothing
+/// `Initialiser =`
 pub const NO_INITIALISER: u16 = 81;
-
-/// AnalogItem: `function` OptionalType name `;` FunctionItems Statement `endfunction`
+/// `AnalogItem = function OptionalType <name> ; FunctionItems Statement endfunction`
 pub const FUNCTION: u16 = 82;
-
-/// AnalogItem: Statement
+/// `AnalogItem = Statement`
 pub const ANALOG_STATEMENT: u16 = 83;
-
-/// FunctionItems: FunctionItem FunctionItems
+/// `FunctionItems = FunctionItem FunctionItems`
 pub const FUNCTION_ITEMS: u16 = 84;
-
-/// FunctionItems: nothing
+/// `FunctionItems =`
 pub const NO_FUNCTION_ITEMS: u16 = 85;
-
-/// FunctionItem: `input` name MoreNames `;`
+/// `FunctionItem = input <name> MoreNames ;`
 pub const FUNCTION_INPUT: u16 = 86;
-
-/// FunctionItem: `real` name MoreNames `;`
+/// `FunctionItem = real <name> MoreNames ;`
 pub const FUNCTION_REAL: u16 = 87;
-
-/// FunctionItem: `integer` name MoreNames `;`
+/// `FunctionItem = integer <name> MoreNames ;`
 pub const FUNCTION_INTEGER: u16 = 88;
-
-/// Statement: `begin` Label Declarations Statements `end`
+/// `Statement = begin Label Declarations Statements end`
 pub const BLOCK: u16 = 89;
-
-/// Statement: `if` `(` Expression `)` Statement ElseBranch
+/// `Statement = if ( Expression ) Statement ElseBranch`
 pub const IF: u16 = 90;
-
-/// Statement: `case` `(` Expression `)` CaseItems `endcase`
+/// `Statement = case ( Expression ) CaseItems endcase`
 pub const CASE: u16 = 91;
-
-/// Statement: `for` `(` name `=` Expression `;` Expression `;` name `=` Expression `)` Statement
+/// `Statement = for ( <name> = Expression ; Expression ; <name> = Expression ) Statement`
 pub const FOR: u16 = 92;
-
-/// Statement: `while` `(` Expression `)` Statement
+/// `Statement = while ( Expression ) Statement`
 pub const WHILE: u16 = 93;
-
-/// Statement: `repeat` `(` Expression `)` Statement
+/// `Statement = repeat ( Expression ) Statement`
 pub const REPEAT: u16 = 94;
-
-/// Statement: `@` `(` Event `)` Statement
+/// `Statement = @ ( Event ) Statement`
 pub const WAIT: u16 = 95;
-
-/// Statement: name StatementRest
+/// `Statement = <name> StatementRest`
 pub const NAMED: u16 = 96;
-
-/// Statement: system TaskArguments `;`
+/// `Statement = <system> TaskArguments ;`
 pub const TASK: u16 = 97;
-
-/// Statement: `;`
+/// `Statement = ;`
 pub const NULL: u16 = 98;
-
-/// Label: `:` name
+/// `Label = : <name>`
 pub const LABEL: u16 = 99;
-
-/// Label: nothing
+/// `Label =`
 pub const NO_LABEL: u16 = 100;
-
-/// Declarations: Declaration Declarations
+/// `Declarations = Declaration Declarations`
 pub const DECLARATIONS: u16 = 101;
-
-/// Declarations: nothing
+/// `Declarations =`
 pub const NO_DECLARATIONS: u16 = 102;
-
-/// Declaration: `real` Variables `;`
+/// `Declaration = real Variables ;`
 pub const DECLARED_REAL: u16 = 103;
-
-/// Declaration: `integer` Variables `;`
+/// `Declaration = integer Variables ;`
 pub const DECLARED_INTEGER: u16 = 104;
-
-/// Statements: Statement Statements
+/// `Statements = Statement Statements`
 pub const STATEMENTS: u16 = 105;
-
-/// Statements: nothing
+/// `Statements =`
 pub const NO_STATEMENTS: u16 = 106;
-
-/// ElseBranch: `else` Statement
+/// `ElseBranch = else Statement`
 pub const ELSE: u16 = 107;
-
-/// ElseBranch: nothing
+/// `ElseBranch =`
 pub const NO_ELSE: u16 = 108;
-
-/// CaseItems: CaseItem CaseItems
+/// `CaseItems = CaseItem CaseItems`
 pub const CASE_ITEMS: u16 = 109;
-
-/// CaseItems: nothing
+/// `CaseItems =`
 pub const NO_CASE_ITEMS: u16 = 110;
-
-/// CaseItem: `default` OptionalColon Statement
+/// `CaseItem = default OptionalColon Statement`
 pub const DEFAULT: u16 = 111;
-
-/// CaseItem: Expression MoreCaseValues `:` Statement
+/// `CaseItem = Expression MoreCaseValues : Statement`
 pub const CASE_ITEM: u16 = 112;
-
-/// OptionalColon: `:`
+/// `OptionalColon = :`
 pub const COLON: u16 = 113;
-
-/// OptionalColon: nothing
+/// `OptionalColon =`
 pub const NO_COLON: u16 = 114;
-
-/// MoreCaseValues: `,` Expression MoreCaseValues
+/// `MoreCaseValues = , Expression MoreCaseValues`
 pub const MORE_VALUES: u16 = 115;
-
-/// MoreCaseValues: nothing
+/// `MoreCaseValues =`
 pub const NO_MORE_VALUES: u16 = 116;
-
-/// Event: `initial_step` EventArguments
+/// `Event = initial_step EventArguments`
 pub const INITIAL_STEP: u16 = 117;
-
-/// Event: `final_step` EventArguments
+/// `Event = final_step EventArguments`
 pub const FINAL_STEP: u16 = 118;
-
-/// EventArguments: `(` text MoreEventArguments `)`
+/// `EventArguments = ( <text> MoreEventArguments )`
 pub const ANALYSES: u16 = 119;
-
-/// EventArguments: nothing
+/// `EventArguments =`
 pub const NO_ANALYSES: u16 = 120;
-
-/// MoreEventArguments: `,` text MoreEventArguments
+/// `MoreEventArguments = , <text> MoreEventArguments`
 pub const MORE_ANALYSES: u16 = 121;
-
-/// MoreEventArguments: nothing
+/// `MoreEventArguments =`
 pub const NO_MORE_ANALYSES: u16 = 122;
-
-/// StatementRest: `=` Expression `;`
+/// `StatementRest = = Expression ;`
 pub const ASSIGN: u16 = 123;
-
-/// StatementRest: `(` name SecondNode `)` `<+` Expression `;`
+/// `StatementRest = ( <name> SecondNode ) <+ Expression ;`
 pub const CONTRIBUTE: u16 = 124;
-
-/// TaskArguments: `(` Arguments `)`
+/// `TaskArguments = ( Arguments )`
 pub const TASK_ARGUMENTS: u16 = 125;
-
-/// TaskArguments: nothing
+/// `TaskArguments =`
 pub const NO_TASK_ARGUMENTS: u16 = 126;
-
-/// Arguments: Argument MoreArguments
+/// `Arguments = Argument MoreArguments`
 pub const ARGUMENTS: u16 = 127;
-
-/// Arguments: nothing
+/// `Arguments =`
 pub const NO_ARGUMENTS: u16 = 128;
-
-/// MoreArguments: `,` Argument MoreArguments
+/// `MoreArguments = , Argument MoreArguments`
 pub const MORE_ARGUMENTS: u16 = 129;
-
-/// MoreArguments: nothing
+/// `MoreArguments =`
 pub const NO_MORE_ARGUMENTS: u16 = 130;
-
-/// Expression: Or ConditionalTail
+/// `Expression = Or ConditionalTail`
 pub const EXPRESSION: u16 = 131;
-
-/// ConditionalTail: `?` Expression `:` Expression
+/// `ConditionalTail = ? Expression : Expression`
 pub const CHOICE: u16 = 132;
-
-/// ConditionalTail: nothing
+/// `ConditionalTail =`
 pub const NO_CHOICE: u16 = 133;
-
-/// Or: And OrTail
+/// `Or = And OrTail`
 pub const OR: u16 = 134;
-
-/// OrTail: `||` And OrTail
+/// `OrTail = || And OrTail`
 pub const OR_MORE: u16 = 135;
-
-/// OrTail: nothing
+/// `OrTail =`
 pub const OR_END: u16 = 136;
-
-/// And: Equality AndTail
+/// `And = Equality AndTail`
 pub const AND: u16 = 137;
-
-/// AndTail: `&&` Equality AndTail
+/// `AndTail = && Equality AndTail`
 pub const AND_MORE: u16 = 138;
-
-/// AndTail: nothing
+/// `AndTail =`
 pub const AND_END: u16 = 139;
-
-/// Equality: Relation EqualityTail
+/// `Equality = Relation EqualityTail`
 pub const EQUALITY: u16 = 140;
-
-/// EqualityTail: `==` Relation EqualityTail
+/// `EqualityTail = == Relation EqualityTail`
 pub const EQUAL_MORE: u16 = 141;
-
-/// EqualityTail: `!=` Relation EqualityTail
+/// `EqualityTail = != Relation EqualityTail`
 pub const NOT_EQUAL_MORE: u16 = 142;
-
-/// EqualityTail: nothing
+/// `EqualityTail =`
 pub const EQUALITY_END: u16 = 143;
-
-/// Relation: Sum RelationTail
+/// `Relation = Sum RelationTail`
 pub const RELATION: u16 = 144;
-
-/// RelationTail: `<` Sum RelationTail
+/// `RelationTail = < Sum RelationTail`
 pub const LESS_MORE: u16 = 145;
-
-/// RelationTail: `<=` Sum RelationTail
+/// `RelationTail = <= Sum RelationTail`
 pub const AT_MOST_MORE: u16 = 146;
-
-/// RelationTail: `>` Sum RelationTail
+/// `RelationTail = > Sum RelationTail`
 pub const GREATER_MORE: u16 = 147;
-
-/// RelationTail: `>=` Sum RelationTail
+/// `RelationTail = >= Sum RelationTail`
 pub const AT_LEAST_MORE: u16 = 148;
-
-/// RelationTail: nothing
+/// `RelationTail =`
 pub const RELATION_END: u16 = 149;
-
-/// Sum: Product SumTail
+/// `Sum = Product SumTail`
 pub const SUM: u16 = 150;
-
-/// SumTail: `+` Product SumTail
+/// `SumTail = + Product SumTail`
 pub const ADD_MORE: u16 = 151;
-
-/// SumTail: `-` Product SumTail
+/// `SumTail = - Product SumTail`
 pub const SUBTRACT_MORE: u16 = 152;
-
-/// SumTail: nothing
+/// `SumTail =`
 pub const SUM_END: u16 = 153;
-
-/// Product: Power ProductTail
+/// `Product = Power ProductTail`
 pub const PRODUCT: u16 = 154;
-
-/// ProductTail: `*` Power ProductTail
+/// `ProductTail = * Power ProductTail`
 pub const MULTIPLY_MORE: u16 = 155;
-
-/// ProductTail: `/` Power ProductTail
+/// `ProductTail = / Power ProductTail`
 pub const DIVIDE_MORE: u16 = 156;
-
-/// ProductTail: `%` Power ProductTail
+/// `ProductTail = % Power ProductTail`
 pub const REMAINDER_MORE: u16 = 157;
-
-/// ProductTail: nothing
+/// `ProductTail =`
 pub const PRODUCT_END: u16 = 158;
-
-/// Power: Unary PowerTail
+/// `Power = Unary PowerTail`
 pub const POWER: u16 = 159;
-
-/// PowerTail: `**` Unary PowerTail
+/// `PowerTail = ** Unary PowerTail`
 pub const POWER_MORE: u16 = 160;
-
-/// PowerTail: nothing
+/// `PowerTail =`
 pub const POWER_END: u16 = 161;
-
-/// Unary: `+` Unary
+/// `Unary = + Unary`
 pub const PLUS: u16 = 162;
-
-/// Unary: `-` Unary
+/// `Unary = - Unary`
 pub const MINUS: u16 = 163;
-
-/// Unary: `!` Unary
+/// `Unary = ! Unary`
 pub const NOT: u16 = 164;
-
-/// Unary: Primary
+/// `Unary = Primary`
 pub const UNSIGNED: u16 = 165;
-
-/// Primary: number
+/// `Primary = <number>`
 pub const NUMBER: u16 = 166;
-
-/// Primary: `inf`
+/// `Primary = inf`
 pub const INF: u16 = 167;
-
-/// Primary: `(` Expression `)`
+/// `Primary = ( Expression )`
 pub const GROUP: u16 = 168;
-
-/// Primary: name CallArguments
+/// `Primary = <name> CallArguments`
 pub const WORD: u16 = 169;
-
-/// Primary: system CallArguments
+/// `Primary = <system> CallArguments`
 pub const SYSTEM: u16 = 170;
-
-/// CallArguments: `(` Arguments `)`
+/// `CallArguments = ( Arguments )`
 pub const CALL: u16 = 171;
-
-/// CallArguments: nothing
+/// `CallArguments =`
 pub const NO_CALL: u16 = 172;

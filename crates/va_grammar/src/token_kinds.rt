@@ -2,7 +2,7 @@
 ghost use Rattle.std.specs.Prelude.{◌≡◌, IfOk};
 ghost use Rattle.predict.specs.Sentence.{EndsWith};
 ghost use Rattle.va_base.specs.Expansion.{IsExpanded};
-ghost use Rattle.va_grammar.specs.Kinds.{as_long, is_spelling, keywords, kind_of as kind_of_lem, kinds_of, marks, spelled_among};
+ghost use Rattle.va_grammar.specs.Kinds as lexical;
 ghost use Rattle.va_grammar.specs.Terminals.{spelling_of};
 ghost use Rattle.va_grammar.specs.Sets.{va_rules};
 
@@ -102,7 +102,7 @@ static MARKS: [&[Terminal]; 3] = [
 
 /// Whether these bytes spell a kind that has a spelling of its own.
 fn is_spelled(terminal: Terminal, bytes: &[u8]) -> bool
-    ensures { result ≡ is_spelling (spelling_of terminal) bytes.now }
+    ensures { result ≡ lexical.is_spelling (spelling_of terminal) bytes.now }
 {
     match terminal.spelling() {
         None => false,
@@ -112,7 +112,7 @@ fn is_spelled(terminal: Terminal, bytes: &[u8]) -> bool
 
 /// The keywords of so many bytes.
 fn keywords_of(length: usize) -> &'static [Terminal]
-    ensures { result.now ≡ as_long length keywords }
+    ensures { result.now ≡ lexical.as_long length lexical.keywords }
 {
     if length < KEYWORDS.len() {
         KEYWORDS[length]
@@ -123,7 +123,7 @@ fn keywords_of(length: usize) -> &'static [Terminal]
 
 /// The operators and brackets of so many bytes.
 fn marks_of(length: usize) -> &'static [Terminal]
-    ensures { result.now ≡ as_long length marks }
+    ensures { result.now ≡ lexical.as_long length lexical.marks }
 {
     if length < MARKS.len() {
         MARKS[length]
@@ -134,7 +134,7 @@ fn marks_of(length: usize) -> &'static [Terminal]
 
 /// The first of some kinds that these bytes spell, or else another kind.
 fn spelled(terminals: &[Terminal], bytes: &[u8], other: Terminal) -> Terminal
-    ensures { result ≡ spelled_among terminals.now bytes.now other }
+    ensures { result ≡ lexical.spelled_among terminals.now bytes.now other }
 {
     for terminal in terminals {
         if is_spelled(*terminal, bytes) {
@@ -146,7 +146,7 @@ fn spelled(terminals: &[Terminal], bytes: &[u8], other: Terminal) -> Terminal
 
 /// The kind of a token.
 fn kind_of(kind: TokenKind, bytes: &[u8]) -> Terminal
-    ensures { result ≡ kind_of_lem kind bytes.now }
+    ensures { result ≡ lexical.kind_of kind bytes.now }
 {
     match kind {
         TokenKind::Word => spelled(keywords_of(bytes.len()), bytes, Terminal::Name),
@@ -164,7 +164,7 @@ fn kind_of(kind: TokenKind, bytes: &[u8]) -> Terminal
 /// (Lexical conventions).
 pub fn kinds(alloc: Global, e: &Expanded) -> Result<Vec<u16>, NoMemory>
     requires { IsExpanded e.now }
-    ensures kinds { IfOk result (λ k. k.items ≡ kinds_of e.now) }
+    ensures kinds { IfOk result (λ k. k.items ≡ lexical.kinds_of e.now) }
     ensures ended { IfOk result (λ k. EndsWith va_rules.end_kind k.items) }
 {
     let tokens = e.tokens.as_list();

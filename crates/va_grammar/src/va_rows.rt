@@ -7,8 +7,8 @@ ghost use Rattle.va_grammar.specs.Parts.{symbol_of};
 ghost use Rattle.va_grammar.specs.Sets.{va_grammar, va_rules};
 
 use crate::nonterminal::Nonterminal;
-use crate::row_at::{KINDS, LEFTS, NO_ROW, ROW_AT};
-use crate::rows::{Part, ROWS};
+use crate::rows::Part;
+use crate::tables::{FIRST_ROWS, KINDS, NONTERMINALS, ROW_AT, ROWS};
 use crate::terminal::Terminal;
 use predict::{Grammar, Symbol};
 
@@ -76,19 +76,21 @@ fn parts(row: u16) -> &'static [Part]
 fn row_at(left: u16, next: u16) -> Option<u16>
     ensures { result ≡ va_rules.row_at left next }
 {
-    if left as usize >= LEFTS || next as usize >= KINDS {
+    if left as usize >= NONTERMINALS || next as usize >= KINDS {
         return None;
     }
-    row_in(ROW_AT[left as usize][next as usize])
+    row_in(
+        FIRST_ROWS[left as usize],
+        ROW_AT[left as usize][next as usize],
+    )
 }
 
-/// The row that a cell of the table names.
-fn row_in(cell: u8) -> Option<u16>
-    ensures { result ≡ row_of cell }
+/// The row that a cell of the table tells, where the first row of its nonterminal has this number.
+fn row_in(first_row: u8, cell: u8) -> Option<u16>
+    ensures { result ≡ row_of first_row cell }
 {
-    if cell == NO_ROW {
-        None
-    } else {
-        Some(cell as u16)
+    match cell {
+        b'0'..=b'9' => Some(first_row as u16 + (cell - b'0') as u16),
+        _ => None,
     }
 }
