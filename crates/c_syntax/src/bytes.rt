@@ -3,7 +3,7 @@ ghost use Rattle.std.specs.Prelude.{◌≡◌, ◌≤◌, ◌==◌, ℕ, Bool, l
 ghost use Rattle.std.specs.List.{prefix_len};
 ghost use Rattle.va_base.specs.Spelling.{is_letter, is_digit};
 ghost use Rattle.c_tree.specs.tokens.Spelling.{is_word_byte, is_in_line};
-ghost use Rattle.c_tree.specs.tokens.Tokens.{begins as begins_lem};
+ghost use Rattle.c_tree.specs.tokens.Tokens as tokens;
 
 /// A test of bytes.
 pub trait ByteTest {
@@ -71,14 +71,14 @@ pub fn front_len<T: ByteTest>(text: &[u8]) -> usize
 
 /// Whether a byte stands at the front that passes a test.
 pub fn begins<T: ByteTest>(text: &[u8]) -> bool
-    ensures { result ≡ begins_lem T.test text.now }
+    ensures { result ≡ tokens.begins T.test text.now }
 {
     !text.is_empty() && T::passes(text[0])
 }
 
 /// Whether this byte stands at the front.
 pub fn begins_with(text: &[u8], byte: u8) -> bool
-    ensures { result ≡ begins_lem (λ first. first == byte) text.now }
+    ensures { result ≡ tokens.begins (λ first. first == byte) text.now }
 {
     !text.is_empty() && text[0] == byte
 }

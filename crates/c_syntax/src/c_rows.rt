@@ -3,7 +3,7 @@ ghost use Rattle.std.specs.Prelude.{◌≡◌, ℕ, ◌<◌, ◌^◌, Some, None
 ghost use Rattle.predict.specs.Rules.{IsRow};
 ghost use Rattle.predict.specs.FirstFit.{IsFirstFit, IsRowOf, NoneFits};
 ghost use Rattle.c_syntax.specs.grammar.Sets.{c_grammar, c_rules, c_table};
-ghost use Rattle.c_syntax.specs.grammar.Choices.{kind_place, next_kinds, next_rows, symbol_numbered as symbol_numbered_lem};
+ghost use Rattle.c_syntax.specs.grammar.Choices as choices;
 
 use crate::row_tables::{KINDS, NEXT_KINDS, NEXT_ROWS, NONTERMINALS, ROWS};
 use predict::{Grammar, Symbol};
@@ -61,7 +61,7 @@ impl Grammar for CRows {
 
 /// A symbol by its number: kinds come first, and nonterminals behind them.
 fn symbol_numbered(number: u16) -> Symbol
-    ensures { result ≡ symbol_numbered_lem number }
+    ensures { result ≡ choices.symbol_numbered number }
 {
     if number < KINDS {
         Symbol::Kind(number)
@@ -73,14 +73,14 @@ fn symbol_numbered(number: u16) -> Symbol
 /// The numbers of the symbols of a row.
 fn symbols(row: u16) -> &'static [u16]
     requires { IsRow c_rules row }
-    ensures { map symbol_numbered_lem result.now ≡ c_rules.symbols row }
+    ensures { map choices.symbol_numbered result.now ≡ c_rules.symbols row }
 {
     ROWS[row as usize]
 }
 
 /// The place of a kind in a list.
 fn place_of_kind(kinds: &[u16], next: u16) -> Option<usize>
-    ensures { result ≡ kind_place kinds.now next }
+    ensures { result ≡ choices.kind_place kinds.now next }
 {
     for (place, kind) in kinds.iter().enumerate() {
         if *kind == next {
@@ -104,7 +104,7 @@ fn row_in(rows: &[u16], place: usize) -> Option<u16>
 /// The kinds at which rows of a nonterminal are chosen.
 fn kinds_at(left: u16) -> &'static [u16]
     requires { left < 72 }
-    ensures { result.now ≡ next_kinds c_table.rows left }
+    ensures { result.now ≡ choices.next_kinds c_table.rows left }
 {
     NEXT_KINDS[left as usize]
 }
@@ -112,7 +112,7 @@ fn kinds_at(left: u16) -> &'static [u16]
 /// And for each the row.
 fn rows_at(left: u16) -> &'static [u16]
     requires { left < 72 }
-    ensures { result.now ≡ next_rows 0 c_table.rows left }
+    ensures { result.now ≡ choices.next_rows 0 c_table.rows left }
 {
     NEXT_ROWS[left as usize]
 }

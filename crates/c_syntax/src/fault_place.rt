@@ -1,6 +1,6 @@
 //! The places of faults.
 ghost use Rattle.std.specs.Prelude.{◌≡◌, ◌<◌, ◌≤◌, ◌-◌, ◌^◌, fold, take, length};
-ghost use Rattle.c_syntax.specs.Places.{after, place_at as place_at_lem, token_start as token_start_lem, fault_place};
+ghost use Rattle.c_syntax.specs.Places as places;
 
 use crate::error::CErr;
 use crate::front::front;
@@ -10,7 +10,7 @@ use va_base::Place;
 /// The place of the byte with this index, or of the end of the text.
 fn place_at(bytes: &[u8], index: usize) -> Place
     requires { length bytes.now < 2 ^ 32 - 1 }
-    ensures { result ≡ place_at_lem bytes.now index }
+    ensures { result ≡ places.place_at bytes.now index }
 {
     let mut place = Place {
         file: 0,
@@ -40,7 +40,7 @@ fn place_at(bytes: &[u8], index: usize) -> Place
 
 /// The index of the first byte of a token, by the token's number, or of the end where there is no such token.
 fn token_start(bytes: &[u8], number: usize) -> usize
-    ensures { result ≡ token_start_lem bytes.now number }
+    ensures { result ≡ places.token_start bytes.now number }
 {
     let mut at = 0;
     let mut left = number;
@@ -65,7 +65,7 @@ fn token_start(bytes: &[u8], number: usize) -> usize
 /// memory.
 pub fn place(bytes: &[u8], fault: &CErr) -> Place
     requires { length bytes.now < 2 ^ 32 - 1 }
-    ensures { result ≡ fault_place bytes.now fault.now }
+    ensures { result ≡ places.fault_place bytes.now fault.now }
 {
     match fault {
         CErr::BadByte(at) => place_at(bytes, *at),

@@ -5,9 +5,9 @@ ghost use Rattle.std.specs.Prelude.{◌≡◌, ◌<◌, ◌≤◌, ◌==◌, IsT
 ghost use Rattle.std.specs.List.{starts_with};
 ghost use Rattle.va_base.specs.Longest.{longest};
 ghost use Rattle.va_base.specs.Spelling.{is_letter, is_digit};
-ghost use Rattle.c_tree.specs.tokens.Spelling.{is_in_name, is_string_rest, is_plain as is_plain_lem, is_octal_digit as is_octal_digit_lem, is_escape as is_escape_lem, is_mark, is_single_mark as is_single_mark_lem, is_double_mark as is_double_mark_lem};
-ghost use Rattle.c_tree.specs.tokens.Tokens.{begins as begins_lem};
-ghost use Rattle.c_syntax.specs.Fronts.{front_of, shifted, is_other_byte, begins_name as begins_name_lem, begins_escape as begins_escape_lem, begins_double_mark as begins_double_mark_lem};
+ghost use Rattle.c_tree.specs.tokens.Spelling as spelling;
+ghost use Rattle.c_tree.specs.tokens.Tokens as tokens;
+ghost use Rattle.c_syntax.specs.Fronts as fronts;
 
 use crate::bytes::{ByteTest, Digit, InLine, Letter, WordByte, begins, begins_with, front_len};
 use crate::number::{is_within, tail_kind, tail_len};
@@ -21,8 +21,8 @@ pub struct FrontToken {
 }
 
 fn word(text: &[u8]) -> Option<FrontToken>
-    requires { IsTrue (begins_lem is_letter text.now) }
-    ensures { result ≡ front_of text.now }
+    requires { IsTrue (tokens.begins is_letter text.now) }
+    ensures { result ≡ fronts.front_of text.now }
 {
     Some(FrontToken {
         kind: CTokenKind::Word,
@@ -31,8 +31,8 @@ fn word(text: &[u8]) -> Option<FrontToken>
 }
 
 fn number(text: &[u8]) -> Option<FrontToken>
-    requires { IsTrue (begins_lem is_digit text.now) }
-    ensures { result ≡ front_of text.now }
+    requires { IsTrue (tokens.begins is_digit text.now) }
+    ensures { result ≡ fronts.front_of text.now }
 {
     let digits = front_len::<Digit>(text);
     let tail = tail_len(&text[digits..]);
@@ -46,8 +46,8 @@ fn number(text: &[u8]) -> Option<FrontToken>
 
 /// `#include` and its line.
 fn include(text: &[u8]) -> Option<FrontToken>
-    requires { IsTrue (begins_lem (λ first. first == 35) text.now) }
-    ensures { result ≡ front_of text.now }
+    requires { IsTrue (tokens.begins (λ first. first == 35) text.now) }
+    ensures { result ≡ fronts.front_of text.now }
 {
     let rest = &text[1..];
     if !rest.starts_with(b"include") {
@@ -61,14 +61,14 @@ fn include(text: &[u8]) -> Option<FrontToken>
 
 /// Whether a point and a letter stand at the front.
 fn begins_name(text: &[u8]) -> bool
-    ensures { result ≡ begins_name_lem text.now }
+    ensures { result ≡ fronts.begins_name text.now }
 {
     text.len() > 1 && text[0] == b'.' && Letter::passes(text[1])
 }
 
 /// How many bytes behind a name's first letter belong to the name of a field.
 fn name_len(text: &[u8]) -> usize
-    ensures longest { longest is_in_name text.now ≡ Some result }
+    ensures longest { longest spelling.is_in_name text.now ≡ Some result }
     ensures within { result ≤ length text.now }
 {
     let mut at = front_len::<WordByte>(text);
@@ -81,8 +81,8 @@ fn name_len(text: &[u8]) -> usize
 
 /// The name of a field.
 fn field(text: &[u8]) -> Option<FrontToken>
-    requires { IsTrue (begins_lem (λ first. first == 46) text.now) }
-    ensures { result ≡ front_of text.now }
+    requires { IsTrue (tokens.begins (λ first. first == 46) text.now) }
+    ensures { result ≡ fronts.front_of text.now }
 {
     if !begins_name(text) {
         return None;
@@ -95,20 +95,20 @@ fn field(text: &[u8]) -> Option<FrontToken>
 
 /// Whether a byte stands as itself in a string.
 fn is_plain(byte: u8) -> bool
-    ensures { result ≡ is_plain_lem byte }
+    ensures { result ≡ spelling.is_plain byte }
 {
     32 <= byte && byte <= 126 && !matches!(byte, b'"' | b'?' | b'\\' | b'`')
 }
 
 fn is_octal_digit(byte: u8) -> bool
-    ensures { result ≡ is_octal_digit_lem byte }
+    ensures { result ≡ spelling.is_octal_digit byte }
 {
     48 <= byte && byte <= 55
 }
 
 /// Whether three bytes behind a `\` stand for a byte.
 fn is_escape(first: u8, second: u8, third: u8) -> bool
-    ensures { result ≡ is_escape_lem first second third }
+    ensures { result ≡ spelling.is_escape first second third }
 {
     if !is_octal_digit(first) || !is_octal_digit(second) || !is_octal_digit(third) {
         return false;
@@ -118,7 +118,7 @@ fn is_escape(first: u8, second: u8, third: u8) -> bool
 }
 
 fn begins_escape(rest: &[u8]) -> bool
-    ensures { result ≡ begins_escape_lem rest.now }
+    ensures { result ≡ fronts.begins_escape rest.now }
 {
     rest.len() > 3 && rest[0] == b'\\' && is_escape(rest[1], rest[2], rest[3])
 }
@@ -126,9 +126,9 @@ fn begins_escape(rest: &[u8]) -> bool
 /// How many bytes at the front stand for one byte of a string: one, or the four of an escape; none where a quote stands
 /// there, or what no string holds.
 fn unit_len(rest: &[u8]) -> usize
-    ensures unit { 0 < result → longest is_string_rest rest.now ≡ shifted result (longest is_string_rest (drop result rest.now)) }
+    ensures unit { 0 < result → longest spelling.is_string_rest rest.now ≡ fronts.shifted result (longest spelling.is_string_rest (drop result rest.now)) }
     ensures none { result ≡ 0
-        → longest is_string_rest rest.now ≡ (if begins_lem (λ first. first == 34) rest.now then Some 1 else None) }
+        → longest spelling.is_string_rest rest.now ≡ (if tokens.begins (λ first. first == 34) rest.now then Some 1 else None) }
     ensures within { result ≤ length rest.now }
 {
     if rest.is_empty() {
@@ -142,7 +142,7 @@ fn unit_len(rest: &[u8]) -> usize
 
 /// The length of what follows a string's first quote, up to the quote that ends it.
 fn string_rest_len(rest: &[u8]) -> Option<usize>
-    ensures longest { result ≡ longest is_string_rest rest.now }
+    ensures longest { result ≡ longest spelling.is_string_rest rest.now }
     ensures within { IfSome result (λ n. n ≤ length rest.now) }
 {
     let mut at = 0;
@@ -159,8 +159,8 @@ fn string_rest_len(rest: &[u8]) -> Option<usize>
 }
 
 fn string(text: &[u8]) -> Option<FrontToken>
-    requires { IsTrue (begins_lem (λ first. first == 34) text.now) }
-    ensures { result ≡ front_of text.now }
+    requires { IsTrue (tokens.begins (λ first. first == 34) text.now) }
+    ensures { result ≡ fronts.front_of text.now }
 {
     match string_rest_len(&text[1..]) {
         Some(len) => Some(FrontToken {
@@ -172,7 +172,7 @@ fn string(text: &[u8]) -> Option<FrontToken>
 }
 
 fn is_single_mark(byte: u8) -> bool
-    ensures { result ≡ is_single_mark_lem byte }
+    ensures { result ≡ spelling.is_single_mark byte }
 {
     matches!(
         byte,
@@ -198,7 +198,7 @@ fn is_single_mark(byte: u8) -> bool
 }
 
 fn is_double_mark(first: u8, second: u8) -> bool
-    ensures { result ≡ is_double_mark_lem first second }
+    ensures { result ≡ spelling.is_double_mark first second }
 {
     matches!(
         (first, second),
@@ -214,14 +214,14 @@ fn is_double_mark(first: u8, second: u8) -> bool
 }
 
 fn begins_double_mark(text: &[u8]) -> bool
-    ensures { result ≡ begins_double_mark_lem text.now }
+    ensures { result ≡ fronts.begins_double_mark text.now }
 {
     text.len() > 1 && is_double_mark(text[0], text[1])
 }
 
 /// The length of the longest mark at the front.
 fn mark_len(text: &[u8]) -> Option<usize>
-    ensures longest { result ≡ longest is_mark text.now }
+    ensures longest { result ≡ longest spelling.is_mark text.now }
     ensures within { IfSome result (λ n. n ≤ length text.now) }
 {
     if begins_double_mark(text) {
@@ -236,8 +236,8 @@ fn mark_len(text: &[u8]) -> Option<usize>
 }
 
 fn mark(text: &[u8]) -> Option<FrontToken>
-    requires { IsTrue (begins_lem is_other_byte text.now) }
-    ensures { result ≡ front_of text.now }
+    requires { IsTrue (tokens.begins fronts.is_other_byte text.now) }
+    ensures { result ≡ fronts.front_of text.now }
 {
     match mark_len(text) {
         Some(len) => Some(FrontToken {
@@ -251,7 +251,7 @@ fn mark(text: &[u8]) -> Option<FrontToken>
 /// The token at the front of a text, by its first byte.
 fn front_by_first_byte(text: &[u8]) -> Option<FrontToken>
     requires { 0 < length text.now }
-    ensures { result ≡ front_of text.now }
+    ensures { result ≡ fronts.front_of text.now }
 {
     let first = text[0];
     if Letter::passes(first) {
@@ -271,7 +271,7 @@ fn front_by_first_byte(text: &[u8]) -> Option<FrontToken>
 /// The token at the front of a text: the longest one, unless that is a number outside the limits.
 pub fn front(text: &[u8]) -> Option<FrontToken>
     requires { 0 < length text.now }
-    ensures front { result ≡ front_of text.now }
+    ensures front { result ≡ fronts.front_of text.now }
     ensures some { IfSome result (λ f. 0 < f.len) }
     ensures within { IfSome result (λ f. f.len ≤ length text.now) }
 {

@@ -2,8 +2,8 @@
 ghost use Rattle.std.specs.Prelude.{◌≡◌, ◌<◌, IfOk, IfSome, get_or, map, length};
 ghost use Rattle.std.specs.List.{All};
 ghost use Rattle.std.specs.Str.{bytes_eq};
-ghost use Rattle.c_syntax.specs.grammar.Names.{place_of as place_of_lem};
-ghost use Rattle.c_syntax.specs.grammar.Kinds.{is_no_digit, is_second_number as is_second_number_lem, are_two_numbers as are_two_numbers_lem, numbered_kinds, kind_with_place as kind_with_place_lem, function_kind as function_kind_lem, numbered_kind as numbered_kind_lem, kind_from as kind_from_lem, plain_word_kind as plain_word_kind_lem, word_kind as word_kind_lem, integer_kind as integer_kind_lem, unsigned_kind as unsigned_kind_lem, kind_of as kind_of_lem, kind_in as kind_in_lem, kinds_of};
+ghost use Rattle.c_syntax.specs.grammar.Names as name_rules;
+ghost use Rattle.c_syntax.specs.grammar.Kinds as kind_rules;
 ghost use Rattle.c_syntax.specs.Fronts.{IsWithin};
 
 use crate::bytes::{ByteTest, Digit, front_len};
@@ -42,7 +42,7 @@ static NUMBERED_KINDS: [u16; 27] = [
 struct NoDigit;
 
 impl ByteTest for NoDigit {
-    ghost test = { is_no_digit };
+    ghost test = { kind_rules.is_no_digit };
 
     fn passes(byte: u8) -> bool {
         !byte.is_ascii_digit()
@@ -58,7 +58,7 @@ fn is_same(first: &[u8], second: &[u8]) -> bool
 
 /// The place of a name in a list, counted from 0, or None where it isn't in the list.
 pub fn place_of(names: &[&str], word: &[u8]) -> Option<usize>
-    ensures place { result ≡ place_of_lem (map (λ name. name.now) names.now) word.now }
+    ensures place { result ≡ name_rules.place_of (map (λ name. name.now) names.now) word.now }
     ensures within { IfSome result (λ place. place < length names.now) }
 {
     for (place, name) in names.iter().enumerate() {
@@ -70,14 +70,14 @@ pub fn place_of(names: &[&str], word: &[u8]) -> Option<usize>
 }
 
 fn is_second_number(bytes: &[u8]) -> bool
-    ensures { result ≡ is_second_number_lem bytes.now }
+    ensures { result ≡ kind_rules.is_second_number bytes.now }
 {
     !bytes.is_empty() && bytes[0] == b'_' && is_number_in_name(&bytes[1..])
 }
 
 /// Whether bytes are a number and, behind `_`, another.
 fn are_two_numbers(bytes: &[u8]) -> bool
-    ensures { result ≡ are_two_numbers_lem bytes.now }
+    ensures { result ≡ kind_rules.are_two_numbers bytes.now }
 {
     let end = front_len::<Digit>(bytes);
     is_number_in_name(&bytes[..end]) && is_second_number(&bytes[end..])
@@ -85,7 +85,7 @@ fn are_two_numbers(bytes: &[u8]) -> bool
 
 /// The kind with this place among those of the names that end with a number.
 fn kind_with_place(place: Option<usize>) -> Option<u16>
-    ensures { result ≡ kind_with_place_lem numbered_kinds place }
+    ensures { result ≡ kind_rules.kind_with_place kind_rules.numbered_kinds place }
 {
     match place {
         None => None,
@@ -94,7 +94,7 @@ fn kind_with_place(place: Option<usize>) -> Option<u16>
 }
 
 fn numbered_kind_at(place: usize) -> u16
-    ensures { result ≡ get_or numbered_kinds place 1 }
+    ensures { result ≡ get_or kind_rules.numbered_kinds place 1 }
 {
     if place < NUMBERED_KINDS.len() {
         NUMBERED_KINDS[place]
@@ -105,7 +105,7 @@ fn numbered_kind_at(place: usize) -> u16
 
 /// The kind of a name that ends with a number, by what stands before its first digit and by the rest.
 fn numbered_kind(name: &[u8], rest: &[u8]) -> Option<u16>
-    ensures { result ≡ numbered_kind_lem name.now rest.now }
+    ensures { result ≡ kind_rules.numbered_kind name.now rest.now }
 {
     if is_same(name, b"fn_") {
         return function_kind(rest);
@@ -118,7 +118,7 @@ fn numbered_kind(name: &[u8], rest: &[u8]) -> Option<u16>
 
 /// The kind of a function of a module, by its numbers.
 fn function_kind(numbers: &[u8]) -> Option<u16>
-    ensures { result ≡ function_kind_lem numbers.now }
+    ensures { result ≡ kind_rules.function_kind numbers.now }
 {
     if are_two_numbers(numbers) {
         Some(FN)
@@ -131,7 +131,7 @@ fn function_kind(numbers: &[u8]) -> Option<u16>
 fn kind_from(first: u16, place: Option<usize>, kind: u16) -> u16
     requires first { first < 1000 }
     requires place { IfSome place (λ p. p < 1000) }
-    ensures { result ≡ kind_from_lem first place kind }
+    ensures { result ≡ kind_rules.kind_from first place kind }
 {
     match place {
         None => kind,
@@ -141,7 +141,7 @@ fn kind_from(first: u16, place: Option<usize>, kind: u16) -> u16
 
 /// The kind of a word that has no number.
 fn plain_word_kind(word: &[u8]) -> u16
-    ensures { result ≡ plain_word_kind_lem word.now }
+    ensures { result ≡ kind_rules.plain_word_kind word.now }
 {
     let kind = if place_of(functions(), word).is_some() {
         FUNCTION
@@ -152,7 +152,7 @@ fn plain_word_kind(word: &[u8]) -> u16
 }
 
 fn word_kind(word: &[u8]) -> u16
-    ensures { result ≡ word_kind_lem word.now }
+    ensures { result ≡ kind_rules.word_kind word.now }
 {
     let end = front_len::<NoDigit>(word);
     match numbered_kind(&word[..end], &word[end..]) {
@@ -162,7 +162,7 @@ fn word_kind(word: &[u8]) -> u16
 }
 
 fn integer_kind(word: &[u8]) -> u16
-    ensures { result ≡ integer_kind_lem word.now }
+    ensures { result ≡ kind_rules.integer_kind word.now }
 {
     match word {
         b"0" => 33,
@@ -172,7 +172,7 @@ fn integer_kind(word: &[u8]) -> u16
 }
 
 fn unsigned_kind(word: &[u8]) -> u16
-    ensures { result ≡ unsigned_kind_lem word.now }
+    ensures { result ≡ kind_rules.unsigned_kind word.now }
 {
     match word {
         b"0u" => 35,
@@ -184,7 +184,7 @@ fn unsigned_kind(word: &[u8]) -> u16
 
 /// The kind of a token with these bytes, as the rows number it (see `specs/grammar/Names.antt`).
 pub fn kind_of(kind: CTokenKind, word: &[u8]) -> u16
-    ensures { result ≡ kind_of_lem kind word.now }
+    ensures { result ≡ kind_rules.kind_of kind word.now }
 {
     match kind {
         CTokenKind::Include => kind_from(2, place_of(includes(), word), OTHER),
@@ -201,7 +201,7 @@ pub fn kind_of(kind: CTokenKind, word: &[u8]) -> u16
 /// The kind of a token of a text.
 pub fn kind_in(bytes: &[u8], token: CToken) -> u16
     requires { IsWithin bytes.now token }
-    ensures { result ≡ kind_in_lem bytes.now token }
+    ensures { result ≡ kind_rules.kind_in bytes.now token }
 {
     let first = token.first as usize;
     kind_of(token.kind, &bytes[first..first + token.len as usize])
@@ -210,7 +210,7 @@ pub fn kind_in(bytes: &[u8], token: CToken) -> u16
 /// The kinds of the tokens of a text, and the kind of its end behind them.
 pub fn kinds(alloc: Global, bytes: &[u8], tokens: &[CToken]) -> Result<Vec<u16>, NoMemory>
     requires { All (IsWithin bytes.now) tokens.now }
-    ensures { IfOk result (λ kinds. kinds.items ≡ kinds_of bytes.now tokens.now) }
+    ensures { IfOk result (λ kinds. kinds.items ≡ kind_rules.kinds_of bytes.now tokens.now) }
 {
     let mut kinds = Vec::new(alloc);
     for token in tokens {

@@ -3,9 +3,9 @@ ghost use Rattle.std.specs.Prelude.{◌≡◌, ◌≤◌, ◌+◌, Some, drop, l
 ghost use Rattle.std.specs.List.{list_all};
 ghost use Rattle.va_base.specs.Longest.{longest};
 ghost use Rattle.va_base.specs.Spelling.{is_digit};
-ghost use Rattle.c_tree.specs.tokens.Spelling.{is_number_tail, tail_kind as tail_kind_lem};
-ghost use Rattle.c_tree.specs.tokens.Limits.{has_no_leading_zero as has_no_leading_zero_lem, is_plain_negative as is_plain_negative_lem, is_plain_power as is_plain_power_lem, is_at_most as is_at_most_lem, is_tail_within as is_tail_within_lem, is_within as is_within_lem};
-ghost use Rattle.c_syntax.specs.grammar.Kinds.{is_number_in_name as is_number_in_name_lem};
+ghost use Rattle.c_tree.specs.tokens.Spelling as spelling;
+ghost use Rattle.c_tree.specs.tokens.Limits as limits;
+ghost use Rattle.c_syntax.specs.grammar.Kinds as kinds;
 ghost use Rattle.c_syntax.specs.Fronts.{is_power_front};
 
 use crate::bytes::{Digit, begins_with, front_len};
@@ -27,7 +27,7 @@ fn power_len(text: &[u8]) -> usize
 
 /// How many bytes behind a number's digits belong to it.
 pub fn tail_len(text: &[u8]) -> usize
-    ensures longest { longest is_number_tail text.now ≡ Some result }
+    ensures longest { longest spelling.is_number_tail text.now ≡ Some result }
     ensures within { result ≤ length text.now }
 {
     if begins_with(text, b'u') {
@@ -42,7 +42,7 @@ pub fn tail_len(text: &[u8]) -> usize
 
 /// The kind of a number with this tail.
 pub fn tail_kind(tail: &[u8]) -> CTokenKind
-    ensures { result ≡ tail_kind_lem tail.now }
+    ensures { result ≡ spelling.tail_kind tail.now }
 {
     match tail {
         [] => CTokenKind::Integer,
@@ -52,19 +52,19 @@ pub fn tail_kind(tail: &[u8]) -> CTokenKind
 }
 
 fn has_no_leading_zero(digits: &[u8]) -> bool
-    ensures { result ≡ has_no_leading_zero_lem digits.now }
+    ensures { result ≡ limits.has_no_leading_zero digits.now }
 {
     digits.len() < 2 || digits[0] != b'0'
 }
 
 fn is_plain_negative(digits: &[u8]) -> bool
-    ensures { result ≡ is_plain_negative_lem digits.now }
+    ensures { result ≡ limits.is_plain_negative digits.now }
 {
     !digits.is_empty() && digits[0] != b'0'
 }
 
 fn is_plain_power(power: &[u8]) -> bool
-    ensures { result ≡ is_plain_power_lem power.now }
+    ensures { result ≡ limits.is_plain_power power.now }
 {
     if power.is_empty() {
         return false;
@@ -77,7 +77,7 @@ fn is_plain_power(power: &[u8]) -> bool
 }
 
 fn is_at_most(limit: u128, value: Option<Decimal>) -> bool
-    ensures { result ≡ is_at_most_lem limit value }
+    ensures { result ≡ limits.is_at_most limit value }
 {
     match value {
         None => false,
@@ -86,7 +86,7 @@ fn is_at_most(limit: u128, value: Option<Decimal>) -> bool
 }
 
 fn is_tail_within(bytes: &[u8], digits: &[u8], tail: &[u8]) -> bool
-    ensures { result ≡ is_tail_within_lem bytes.now digits.now tail.now }
+    ensures { result ≡ limits.is_tail_within bytes.now digits.now tail.now }
 {
     if tail.is_empty() {
         return is_at_most(2147483647, decimal(digits));
@@ -99,7 +99,7 @@ fn is_tail_within(bytes: &[u8], digits: &[u8], tail: &[u8]) -> bool
 
 /// Whether a number is within the limits and has no leading zero.
 pub fn is_within(bytes: &[u8]) -> bool
-    ensures { result ≡ is_within_lem bytes.now }
+    ensures { result ≡ limits.is_within bytes.now }
 {
     let end = front_len::<Digit>(bytes);
     let digits = &bytes[..end];
@@ -114,7 +114,7 @@ fn are_digits(bytes: &[u8]) -> bool
 
 /// Whether digits are a number as names hold it: without a leading zero, and at most 4294967295.
 pub fn is_number_in_name(digits: &[u8]) -> bool
-    ensures { result ≡ is_number_in_name_lem digits.now }
+    ensures { result ≡ kinds.is_number_in_name digits.now }
 {
     !digits.is_empty()
         && are_digits(digits)

@@ -2,7 +2,7 @@
 ghost use Rattle.std.specs.Prelude.{◌≡◌, ◌<◌, ◌^◌, ℕ, IfOk, IsErrOf, Some, None, length};
 ghost use Rattle.std.specs.List.{All};
 ghost use Rattle.c_syntax.specs.Fronts.{IsWithin};
-ghost use Rattle.c_tree.specs.tokens.Spelling.{is_separator as is_separator_lem};
+ghost use Rattle.c_tree.specs.tokens.Spelling as spelling;
 ghost use Rattle.c_tree.specs.tokens.Tokens.{c_tokens_of};
 
 use crate::front::front;
@@ -30,7 +30,7 @@ impl<T: Drop> From<AllocFailed<T>> for TokenErr {
 
 /// Whether a byte separates tokens.
 pub fn is_separator(byte: u8) -> bool
-    ensures { result ≡ is_separator_lem byte }
+    ensures { result ≡ spelling.is_separator byte }
 {
     byte == b'\n' || byte == b' '
 }
