@@ -1,0 +1,13 @@
+//! Tests of the crates that all others stand on: `va_base`, `va_io` and `predict`.
+#![tactic(auto)]
+
+#[cfg(test)]
+mod files;
+#[cfg(test)]
+mod grammars;
+#[cfg(test)]
+mod parsing;
+#[cfg(test)]
+mod sinks;
+#[cfg(test)]
+mod values;
