@@ -3,7 +3,7 @@ ghost use Rattle.std.specs.Prelude.{◌≡◌, ◌≤◌, ◌==◌, ℕ, Bool, l
 ghost use Rattle.std.specs.List.{prefix_len};
 ghost use Rattle.va_base.specs.Spelling.{is_letter, is_digit, is_word_byte, is_visible, is_text_byte};
 ghost use Rattle.va_lexer.specs.Separators.{is_blank, is_in_line};
-ghost use Rattle.va_lexer.specs.Pieces.{begins as begins_lem};
+ghost use Rattle.va_lexer.specs.Pieces as pieces;
 
 /// A test of bytes.
 pub trait ByteTest {
@@ -104,14 +104,14 @@ pub fn front_len<T: ByteTest>(text: &[u8]) -> usize
 
 /// Whether a byte stands at the front that passes a test.
 pub fn begins<T: ByteTest>(text: &[u8]) -> bool
-    ensures { result ≡ begins_lem T.test text.now }
+    ensures { result ≡ pieces.begins T.test text.now }
 {
     !text.is_empty() && T::passes(text[0])
 }
 
 /// Whether this byte stands at the front.
 pub fn begins_with(text: &[u8], byte: u8) -> bool
-    ensures { result ≡ begins_lem (λ first. first == byte) text.now }
+    ensures { result ≡ pieces.begins (λ first. first == byte) text.now }
 {
     !text.is_empty() && text[0] == byte
 }

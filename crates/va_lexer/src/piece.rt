@@ -3,9 +3,12 @@
 //! Each byte of a piece is looked at a few times at most: once or twice, and in a numeral up to six times.
 ghost use Rattle.std.specs.Prelude.{◌≡◌, ◌<◌, ◌≤◌, ◌+◌, ℕ, Bool, ◌==◌, IsTrue, IfSome, Some, None, length, drop, if◌then◌else◌};
 ghost use Rattle.va_base.specs.Longest.{longest};
-ghost use Rattle.va_base.specs.Spelling.{is_letter, is_digit, is_text_rest, is_mark, is_single_mark as is_single_mark_lem, is_double_mark as is_double_mark_lem};
-ghost use Rattle.va_lexer.specs.Separators.{is_comment_rest, is_line_end, is_blank, closes_comment as closes_comment_lem};
-ghost use Rattle.va_lexer.specs.Pieces.{begins as begins_lem, piece, front as front_lem, shifted, is_other_byte, begins_double_mark as begins_double_mark_lem, numeral_kind as numeral_kind_lem};
+ghost use Rattle.va_base.specs.Spelling as spelling;
+ghost use Rattle.va_base.specs.Spelling.{is_letter, is_digit, is_text_rest, is_mark};
+ghost use Rattle.va_lexer.specs.Separators as separators;
+ghost use Rattle.va_lexer.specs.Separators.{is_comment_rest, is_line_end, is_blank};
+ghost use Rattle.va_lexer.specs.Pieces as pieces;
+ghost use Rattle.va_lexer.specs.Pieces.{piece, shifted, is_other_byte};
 
 use crate::bytes::{
     Blank, ByteTest, Digit, InLine, Letter, TextByte, Visible, WordByte, begins, begins_with,
@@ -38,29 +41,29 @@ fn separator(len: usize) -> Piece
 
 /// A word of the first form.
 fn simple_word(text: &[u8]) -> Piece
-    requires { IsTrue (begins_lem is_letter text.now) }
-    ensures { result ≡ front_lem text.now }
+    requires { IsTrue (pieces.begins is_letter text.now) }
+    ensures { result ≡ pieces.front text.now }
 {
     token(TokenKind::Word, front_len::<WordByte>(text))
 }
 
 fn white_space(text: &[u8]) -> Piece
-    requires { IsTrue (begins_lem is_blank text.now) }
-    ensures { result ≡ front_lem text.now }
+    requires { IsTrue (pieces.begins is_blank text.now) }
+    ensures { result ≡ pieces.front text.now }
 {
     separator(front_len::<Blank>(text))
 }
 
 fn line_end(text: &[u8]) -> Piece
-    requires { IsTrue (begins_lem (λ first. first == 10) text.now) }
-    ensures { result ≡ front_lem text.now }
+    requires { IsTrue (pieces.begins (λ first. first == 10) text.now) }
+    ensures { result ≡ pieces.front text.now }
 {
     token(TokenKind::Newline, 1)
 }
 
 /// The kind of a numeral: one outside the limits is no token.
 fn numeral_kind(bytes: &[u8]) -> TokenKind
-    ensures { result ≡ numeral_kind_lem bytes.now }
+    ensures { result ≡ pieces.numeral_kind bytes.now }
 {
     if decimal(bytes).is_some() {
         TokenKind::Number
@@ -70,8 +73,8 @@ fn numeral_kind(bytes: &[u8]) -> TokenKind
 }
 
 fn number(text: &[u8]) -> Piece
-    requires { IsTrue (begins_lem is_digit text.now) }
-    ensures { result ≡ front_lem text.now }
+    requires { IsTrue (pieces.begins is_digit text.now) }
+    ensures { result ≡ pieces.front text.now }
 {
     let Some(len) = numeral_len(text) else {
         unreachable!();
@@ -81,8 +84,8 @@ fn number(text: &[u8]) -> Piece
 
 /// A system name, or a `$` alone.
 fn system_name(text: &[u8]) -> Piece
-    requires { IsTrue (begins_lem (λ first. first == 36) text.now) }
-    ensures { result ≡ front_lem text.now }
+    requires { IsTrue (pieces.begins (λ first. first == 36) text.now) }
+    ensures { result ≡ pieces.front text.now }
 {
     let len = front_len::<WordByte>(&text[1..]);
     if len == 0 {
@@ -93,8 +96,8 @@ fn system_name(text: &[u8]) -> Piece
 
 /// A backquote with its word, or alone.
 fn tick(text: &[u8]) -> Piece
-    requires { IsTrue (begins_lem (λ first. first == 96) text.now) }
-    ensures { result ≡ front_lem text.now }
+    requires { IsTrue (pieces.begins (λ first. first == 96) text.now) }
+    ensures { result ≡ pieces.front text.now }
 {
     let word = &text[1..];
     if !begins::<Letter>(word) {
@@ -108,7 +111,7 @@ fn tick(text: &[u8]) -> Piece
 fn text_unit_len(rest: &[u8]) -> usize
     ensures unit { 0 < result → longest is_text_rest rest.now ≡ shifted result (longest is_text_rest (drop result rest.now)) }
     ensures none { result ≡ 0
-        → longest is_text_rest rest.now ≡ (if begins_lem (λ first. first == 34) rest.now then Some 1 else None) }
+        → longest is_text_rest rest.now ≡ (if pieces.begins (λ first. first == 34) rest.now then Some 1 else None) }
     ensures within { result ≤ length rest.now }
 {
     if begins_with(rest, b'"') {
@@ -143,8 +146,8 @@ fn text_rest_len(rest: &[u8]) -> Option<usize>
 
 /// A string, or what stands up to the line's end where none begins.
 fn string(text: &[u8]) -> Piece
-    requires { IsTrue (begins_lem (λ first. first == 34) text.now) }
-    ensures { result ≡ front_lem text.now }
+    requires { IsTrue (pieces.begins (λ first. first == 34) text.now) }
+    ensures { result ≡ pieces.front text.now }
 {
     match text_rest_len(&text[1..]) {
         Some(len) => token(TokenKind::Text, 1 + len),
@@ -172,8 +175,8 @@ fn line_end_len(text: &[u8]) -> Option<usize>
 
 /// An escaped word, a line that goes on, or a `\` alone.
 fn backslash(text: &[u8]) -> Piece
-    requires { IsTrue (begins_lem (λ first. first == 92) text.now) }
-    ensures { result ≡ front_lem text.now }
+    requires { IsTrue (pieces.begins (λ first. first == 92) text.now) }
+    ensures { result ≡ pieces.front text.now }
 {
     let rest = &text[1..];
     let word = front_len::<Visible>(rest);
@@ -187,7 +190,7 @@ fn backslash(text: &[u8]) -> Piece
 }
 
 fn closes_comment(text: &[u8]) -> bool
-    ensures { result ≡ closes_comment_lem text.now }
+    ensures { result ≡ separators.closes_comment text.now }
 {
     text.len() > 1 && text[0] == b'*' && text[1] == b'/'
 }
@@ -209,8 +212,8 @@ fn comment_rest_len(rest: &[u8]) -> Option<usize>
 
 /// A comment, or a `/` alone.
 fn slash(text: &[u8]) -> Piece
-    requires { IsTrue (begins_lem (λ first. first == 47) text.now) }
-    ensures { result ≡ front_lem text.now }
+    requires { IsTrue (pieces.begins (λ first. first == 47) text.now) }
+    ensures { result ≡ pieces.front text.now }
 {
     let rest = &text[1..];
     if begins_with(rest, b'/') {
@@ -226,7 +229,7 @@ fn slash(text: &[u8]) -> Piece
 }
 
 fn is_single_mark(byte: u8) -> bool
-    ensures { result ≡ is_single_mark_lem byte }
+    ensures { result ≡ spelling.is_single_mark byte }
 {
     matches!(
         byte,
@@ -252,7 +255,7 @@ fn is_single_mark(byte: u8) -> bool
 }
 
 fn is_double_mark(first: u8, second: u8) -> bool
-    ensures { result ≡ is_double_mark_lem first second }
+    ensures { result ≡ spelling.is_double_mark first second }
 {
     matches!(
         (first, second),
@@ -270,7 +273,7 @@ fn is_double_mark(first: u8, second: u8) -> bool
 }
 
 fn begins_double_mark(text: &[u8]) -> bool
-    ensures { result ≡ begins_double_mark_lem text.now }
+    ensures { result ≡ pieces.begins_double_mark text.now }
 {
     text.len() > 1 && is_double_mark(text[0], text[1])
 }
@@ -293,8 +296,8 @@ fn mark_len(text: &[u8]) -> Option<usize>
 
 /// A mark, or one byte that begins no token.
 fn mark(text: &[u8]) -> Piece
-    requires { IsTrue (begins_lem is_other_byte text.now) }
-    ensures { result ≡ front_lem text.now }
+    requires { IsTrue (pieces.begins is_other_byte text.now) }
+    ensures { result ≡ pieces.front text.now }
 {
     match mark_len(text) {
         Some(len) => token(TokenKind::Mark, len),
@@ -305,7 +308,7 @@ fn mark(text: &[u8]) -> Piece
 /// The piece at the front of a text, by its first byte.
 fn piece_by_first_byte(text: &[u8]) -> Piece
     requires { 0 < length text.now }
-    ensures { result ≡ front_lem text.now }
+    ensures { result ≡ pieces.front text.now }
 {
     let first = text[0];
     if Letter::passes(first) {
@@ -331,7 +334,7 @@ fn piece_by_first_byte(text: &[u8]) -> Piece
 /// The piece at the front of a text: the longest token or separator, or bytes that are no token.
 pub fn front(text: &[u8]) -> Piece
     requires { 0 < length text.now }
-    ensures front { result ≡ front_lem text.now }
+    ensures front { result ≡ pieces.front text.now }
     ensures some { 0 < result.len }
     ensures within { result.len ≤ length text.now }
 {
