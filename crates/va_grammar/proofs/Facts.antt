@@ -14,10 +14,10 @@ fact left kind row = record { left = left; kind = kind; row = row }
 -- the nonterminals that can be empty
 abbrev pub empty_facts : List EmptyFact
 empty_facts =
-    empty 24 53 ∷ empty 78 172 ∷ empty 75 161 ∷ empty 73 158 ∷ empty 71 153 ∷ empty 69 149 ∷ empty 67 143 ∷ empty 65 139 ∷ empty 63 136 ∷
-    empty 61 133 ∷ empty 59 130 ∷ empty 58 128 ∷ empty 57 126 ∷ empty 55 122 ∷ empty 54 120 ∷ empty 52 116 ∷ empty 51 114 ∷ empty 49 110 ∷
-    empty 48 108 ∷ empty 47 106 ∷ empty 45 102 ∷ empty 44 100 ∷ empty 41 85 ∷ empty 39 81 ∷ empty 37 78 ∷ empty 30 65 ∷ empty 28 61 ∷
-    empty 26 58 ∷ empty 25 55 ∷ empty 20 38 ∷ empty 19 36 ∷ empty 18 34 ∷ empty 17 32 ∷ empty 13 24 ∷ empty 11 21 ∷ empty 10 19 ∷
+    empty 78 172 ∷ empty 75 161 ∷ empty 73 158 ∷ empty 71 153 ∷ empty 69 149 ∷ empty 67 143 ∷ empty 65 139 ∷ empty 63 136 ∷ empty 61 133 ∷
+    empty 59 130 ∷ empty 58 128 ∷ empty 57 126 ∷ empty 55 122 ∷ empty 54 120 ∷ empty 52 116 ∷ empty 51 114 ∷ empty 49 110 ∷ empty 48 108 ∷
+    empty 47 106 ∷ empty 45 102 ∷ empty 44 100 ∷ empty 41 85 ∷ empty 39 81 ∷ empty 37 78 ∷ empty 30 65 ∷ empty 28 61 ∷ empty 26 58 ∷
+    empty 25 55 ∷ empty 24 53 ∷ empty 20 38 ∷ empty 19 36 ∷ empty 18 34 ∷ empty 17 32 ∷ empty 13 24 ∷ empty 11 21 ∷ empty 10 19 ∷
     empty 9 17 ∷ empty 6 12 ∷ empty 4 9 ∷ empty 3 7 ∷ empty 0 1 ∷ []
 
 -- the kinds with which a nonterminal can begin

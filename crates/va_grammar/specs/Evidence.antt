@@ -10,7 +10,7 @@ use Rattle.va_grammar.specs.declared.terminal.Terminal.TheVariants.{Else}
 use Rattle.va_grammar.specs.Nonterminals.{nonterminal_number}
 use Rattle.va_grammar.specs.Sets.{va_sets, va_table}
 use Rattle.va_grammar.specs.Terminals.{terminal_number}
-use Rattle.va_grammar.specs.Witnesses.{va_ranks, smallest_rows, smallest_depth, va_next}
+use Rattle.va_grammar.specs.Witnesses.{va_ranks, smallest_rows, smallest_depth, va_next, else_row}
 
 -- parts of symbols, with this tree for each nonterminal
 abbrev pub parts_by : (ℕ → Tree) → List Symbol → Parts
@@ -26,12 +26,13 @@ smallest_tree (suc depth) left =
 
 -- an `else` with its statement
 abbrev pub else_tree : Tree
-else_tree = node 107 (token (terminal_number Else) (subtree (smallest_tree 1 (nonterminal_number Statement)) no_parts))
+else_tree = node else_row (token (terminal_number Else) (subtree (smallest_tree 1 (nonterminal_number Statement)) no_parts))
 
 -- A tree of a nonterminal before a kind: before an `else`, an ElseBranch needs one of its own.
 abbrev pub va_witness : ℕ → ℕ → Tree
 va_witness left next =
-    if nat_eq left (nonterminal_number ElseBranch) && nat_eq next (terminal_number Else) then else_tree else smallest_tree smallest_depth left
+    if nat_eq left (nonterminal_number ElseBranch) && nat_eq next (terminal_number Else) then else_tree
+    else smallest_tree smallest_depth left
 
 -- the evidence
 abbrev pub va_evidence : Evidence

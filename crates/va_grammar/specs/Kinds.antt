@@ -7,15 +7,9 @@ use Rattle.va_base.specs.declared.token.Token.{Token}
 use Rattle.va_base.specs.declared.token.TokenKind.{TokenKind}
 use Rattle.va_base.specs.declared.token.TokenKind.TheVariants as token
 use Rattle.va_base.specs.Expansion.{token_bytes}
-use Rattle.va_grammar.specs.Terminals.{terminal_number, spelling_of}
+use Rattle.va_grammar.specs.Terminals.{terminal_number, spelling_of, keywords, marks}
 use Rattle.va_grammar.specs.declared.terminal.Terminal.{Terminal}
-use Rattle.va_grammar.specs.declared.terminal.Terminal.TheVariants.{EndOfText, Name, System, Number, Text, Module, Endmodule, Input, Output, Inout, Nature, Endnature, Discipline, Enddiscipline, Potential, Flow, Domain, Branch, Parameter, Localparam, Aliasparam, Real, Integer, From, Exclude, Inf, Analog, Function, Endfunction, Begin, End, If, Else, Case, Endcase, Default, For, While, Repeat, InitialStep, FinalStep, LeftParenthesis, RightParenthesis, LeftBracket, RightBracket, Comma, Semicolon, Colon, Dot, Assign, EqualTo, NotEqualTo, Less, LessOrEqual, Contribute, Greater, GreaterOrEqual, Plus, Minus, Times, ToThePower, DividedBy, Modulo, Not, AndAnd, OrOr, Question, At, AttributeOpen, AttributeClose}
-
-abbrev pub keywords : List Terminal
-keywords = Module ∷ Endmodule ∷ Input ∷ Output ∷ Inout ∷ Nature ∷ Endnature ∷ Discipline ∷ Enddiscipline ∷ Potential ∷ Flow ∷ Domain ∷ Branch ∷ Parameter ∷ Localparam ∷ Aliasparam ∷ Real ∷ Integer ∷ From ∷ Exclude ∷ Inf ∷ Analog ∷ Function ∷ Endfunction ∷ Begin ∷ End ∷ If ∷ Else ∷ Case ∷ Endcase ∷ Default ∷ For ∷ While ∷ Repeat ∷ InitialStep ∷ FinalStep ∷ []
-
-abbrev pub marks : List Terminal
-marks = LeftParenthesis ∷ RightParenthesis ∷ LeftBracket ∷ RightBracket ∷ Comma ∷ Semicolon ∷ Colon ∷ Dot ∷ Assign ∷ EqualTo ∷ NotEqualTo ∷ Less ∷ LessOrEqual ∷ Contribute ∷ Greater ∷ GreaterOrEqual ∷ Plus ∷ Minus ∷ Times ∷ ToThePower ∷ DividedBy ∷ Modulo ∷ Not ∷ AndAnd ∷ OrOr ∷ Question ∷ At ∷ AttributeOpen ∷ AttributeClose ∷ []
+use Rattle.va_grammar.specs.declared.terminal.Terminal.TheVariants.{EndOfText, Name, System, Number, Text}
 
 -- whether a spelling is that of these bytes
 abbrev pub is_spelling : Option (List ℕ) → List ℕ → Bool

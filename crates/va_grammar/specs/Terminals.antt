@@ -1,6 +1,6 @@
 -- The kinds of tokens by number, and how they are spelled.
 -- Made by `tools/grammar_tables` from `tools/grammar/verilog_a.txt`; edit that file.
-use Rattle.std.specs.Prelude.{ℕ, List, Option, Some, None, codes}
+use Rattle.std.specs.Prelude.{ℕ, List, [], ◌∷◌, Option, Some, None, codes}
 use Rattle.va_grammar.specs.declared.terminal.Terminal.{Terminal}
 use Rattle.va_grammar.specs.declared.terminal.Terminal.TheVariants as kind
 
@@ -149,3 +149,20 @@ spelling_of kind.Question = Some (codes "?")
 spelling_of kind.At = Some (codes "@")
 spelling_of kind.AttributeOpen = Some (codes "(*")
 spelling_of kind.AttributeClose = Some (codes "*)")
+
+-- the keywords (Lexical conventions)
+abbrev pub keywords : List Terminal
+keywords =
+    kind.Module ∷ kind.Endmodule ∷ kind.Input ∷ kind.Output ∷ kind.Inout ∷ kind.Nature ∷ kind.Endnature ∷ kind.Discipline ∷
+    kind.Enddiscipline ∷ kind.Potential ∷ kind.Flow ∷ kind.Domain ∷ kind.Branch ∷ kind.Parameter ∷ kind.Localparam ∷ kind.Aliasparam ∷
+    kind.Real ∷ kind.Integer ∷ kind.From ∷ kind.Exclude ∷ kind.Inf ∷ kind.Analog ∷ kind.Function ∷ kind.Endfunction ∷ kind.Begin ∷
+    kind.End ∷ kind.If ∷ kind.Else ∷ kind.Case ∷ kind.Endcase ∷ kind.Default ∷ kind.For ∷ kind.While ∷ kind.Repeat ∷ kind.InitialStep ∷
+    kind.FinalStep ∷ []
+
+-- the operators and brackets (Operators)
+abbrev pub marks : List Terminal
+marks =
+    kind.LeftParenthesis ∷ kind.RightParenthesis ∷ kind.LeftBracket ∷ kind.RightBracket ∷ kind.Comma ∷ kind.Semicolon ∷ kind.Colon ∷
+    kind.Dot ∷ kind.Assign ∷ kind.EqualTo ∷ kind.NotEqualTo ∷ kind.Less ∷ kind.LessOrEqual ∷ kind.Contribute ∷ kind.Greater ∷
+    kind.GreaterOrEqual ∷ kind.Plus ∷ kind.Minus ∷ kind.Times ∷ kind.ToThePower ∷ kind.DividedBy ∷ kind.Modulo ∷ kind.Not ∷ kind.AndAnd ∷
+    kind.OrOr ∷ kind.Question ∷ kind.At ∷ kind.AttributeOpen ∷ kind.AttributeClose ∷ []

@@ -104,3 +104,7 @@ va_next =
     (42 ∷ 44 ∷ 46 ∷ 47 ∷ 69 ∷ []) ∷  -- Primary
     (42 ∷ 44 ∷ 46 ∷ 47 ∷ 69 ∷ []) ∷  -- CallArguments
     []
+
+-- the row of an `else` and its statement
+abbrev pub else_row : ℕ
+else_row = 107

@@ -4,6 +4,7 @@
 
 use crate::nonterminal::Nonterminal::*;
 use crate::rows::Part::{self, Rule as N, Token as T};
+use crate::terminal::Terminal;
 use crate::terminal::Terminal::*;
 
 /// How many nonterminals there are.
@@ -11,6 +12,62 @@ pub const NONTERMINALS: usize = 79;
 
 /// How many kinds of tokens there are.
 pub const KINDS: usize = 70;
+
+/// The keywords by the number of their bytes, from 0 on (Lexical conventions).
+pub static KEYWORDS: [&[Terminal]; 14] = [
+    &[],
+    &[],
+    &[If],
+    &[Inf, End, For],
+    &[Flow, Real, From, Else, Case],
+    &[Input, Inout, Begin, While],
+    &[Module, Output, Nature, Domain, Branch, Analog, Repeat],
+    &[Integer, Exclude, Endcase, Default],
+    &[Function],
+    &[Endmodule, Endnature, Potential, Parameter],
+    &[Discipline, Localparam, Aliasparam, FinalStep],
+    &[Endfunction],
+    &[InitialStep],
+    &[Enddiscipline],
+];
+
+/// The operators and brackets by the number of their bytes, from 0 on (Operators).
+pub static MARKS: [&[Terminal]; 3] = [
+    &[],
+    &[
+        LeftParenthesis,
+        RightParenthesis,
+        LeftBracket,
+        RightBracket,
+        Comma,
+        Semicolon,
+        Colon,
+        Dot,
+        Assign,
+        Less,
+        Greater,
+        Plus,
+        Minus,
+        Times,
+        DividedBy,
+        Modulo,
+        Not,
+        Question,
+        At,
+    ],
+    &[
+        EqualTo,
+        NotEqualTo,
+        LessOrEqual,
+        Contribute,
+        GreaterOrEqual,
+        ToThePower,
+        AndAnd,
+        OrOr,
+        AttributeOpen,
+        AttributeClose,
+    ],
+];
 
 /// The parts of each row, in the written order, and its nonterminal behind them. A row's number is its place, counted from 0.
 pub static ROWS: [&[Part]; 173] = [

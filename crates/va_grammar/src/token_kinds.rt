@@ -3,102 +3,13 @@ ghost use Rattle.std.specs.Prelude.{◌≡◌, IfOk};
 ghost use Rattle.predict.specs.Sentence.{EndsWith};
 ghost use Rattle.va_base.specs.Expansion.{IsExpanded};
 ghost use Rattle.va_grammar.specs.Kinds as lexical;
-ghost use Rattle.va_grammar.specs.Terminals.{spelling_of};
+ghost use Rattle.va_grammar.specs.Terminals.{keywords, marks, spelling_of};
 ghost use Rattle.va_grammar.specs.Sets.{va_rules};
 
+use crate::tables::{KEYWORDS, MARKS};
 use crate::terminal::Terminal;
 use std::alloc::Global;
 use va_base::{Expanded, NoMemory, TokenKind};
-
-/// The keywords by the number of their bytes, from 0 on (Lexical conventions).
-static KEYWORDS: [&[Terminal]; 14] = [
-    &[],
-    &[],
-    &[Terminal::If],
-    &[Terminal::Inf, Terminal::End, Terminal::For],
-    &[
-        Terminal::Flow,
-        Terminal::Real,
-        Terminal::From,
-        Terminal::Else,
-        Terminal::Case,
-    ],
-    &[
-        Terminal::Input,
-        Terminal::Inout,
-        Terminal::Begin,
-        Terminal::While,
-    ],
-    &[
-        Terminal::Module,
-        Terminal::Output,
-        Terminal::Nature,
-        Terminal::Domain,
-        Terminal::Branch,
-        Terminal::Analog,
-        Terminal::Repeat,
-    ],
-    &[
-        Terminal::Integer,
-        Terminal::Exclude,
-        Terminal::Endcase,
-        Terminal::Default,
-    ],
-    &[Terminal::Function],
-    &[
-        Terminal::Endmodule,
-        Terminal::Endnature,
-        Terminal::Potential,
-        Terminal::Parameter,
-    ],
-    &[
-        Terminal::Discipline,
-        Terminal::Localparam,
-        Terminal::Aliasparam,
-        Terminal::FinalStep,
-    ],
-    &[Terminal::Endfunction],
-    &[Terminal::InitialStep],
-    &[Terminal::Enddiscipline],
-];
-
-/// The operators and brackets by the number of their bytes, from 0 on (Operators).
-static MARKS: [&[Terminal]; 3] = [
-    &[],
-    &[
-        Terminal::LeftParenthesis,
-        Terminal::RightParenthesis,
-        Terminal::LeftBracket,
-        Terminal::RightBracket,
-        Terminal::Comma,
-        Terminal::Semicolon,
-        Terminal::Colon,
-        Terminal::Dot,
-        Terminal::Assign,
-        Terminal::Less,
-        Terminal::Greater,
-        Terminal::Plus,
-        Terminal::Minus,
-        Terminal::Times,
-        Terminal::DividedBy,
-        Terminal::Modulo,
-        Terminal::Not,
-        Terminal::Question,
-        Terminal::At,
-    ],
-    &[
-        Terminal::EqualTo,
-        Terminal::NotEqualTo,
-        Terminal::LessOrEqual,
-        Terminal::Contribute,
-        Terminal::GreaterOrEqual,
-        Terminal::ToThePower,
-        Terminal::AndAnd,
-        Terminal::OrOr,
-        Terminal::AttributeOpen,
-        Terminal::AttributeClose,
-    ],
-];
 
 /// Whether these bytes spell a kind that has a spelling of its own.
 fn is_spelled(terminal: Terminal, bytes: &[u8]) -> bool
@@ -112,7 +23,7 @@ fn is_spelled(terminal: Terminal, bytes: &[u8]) -> bool
 
 /// The keywords of so many bytes.
 fn keywords_of(length: usize) -> &'static [Terminal]
-    ensures { result.now ≡ lexical.as_long length lexical.keywords }
+    ensures { result.now ≡ lexical.as_long length keywords }
 {
     if length < KEYWORDS.len() {
         KEYWORDS[length]
@@ -123,7 +34,7 @@ fn keywords_of(length: usize) -> &'static [Terminal]
 
 /// The operators and brackets of so many bytes.
 fn marks_of(length: usize) -> &'static [Terminal]
-    ensures { result.now ≡ lexical.as_long length lexical.marks }
+    ensures { result.now ≡ lexical.as_long length marks }
 {
     if length < MARKS.len() {
         MARKS[length]

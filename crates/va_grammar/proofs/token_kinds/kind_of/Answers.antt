@@ -1,6 +1,7 @@
 use Rattle.std.proofs.Common.{ap, sym, ◌∙◌, List}
 use Rattle.va_base.specs.declared.token.TokenKind.{TokenKind}
-use Rattle.va_grammar.specs.Kinds.{keywords, kind_of, marks, spelled_among}
+use Rattle.va_grammar.specs.Kinds.{kind_of, spelled_among}
+use Rattle.va_grammar.specs.Terminals.{keywords, marks}
 use Rattle.va_grammar.specs.declared.terminal.Terminal.{Terminal}
 use Rattle.va_grammar.specs.declared.terminal.Terminal.TheVariants.{Name, EndOfText}
 use Rattle.va_grammar.proofs.Spellings.{among_as_long}
