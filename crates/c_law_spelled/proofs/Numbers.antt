@@ -7,7 +7,7 @@ use Rattle.std.proofs.lemmas.Bool.{and_parts, and_from, lt-ltb}
 use Rattle.std.proofs.lemmas.Bool.Decides.{nat_tests}
 use Rattle.std.proofs.lemmas.List.{take-append-drop, append-nil}
 use Rattle.std.proofs.lemmas.List.Sums.{fold-append}
-use Rattle.va_base.specs.Spelling.{is_digit, is_digit_byte, is_letter, is_empty, is_numeral}
+use Rattle.va_base.specs.Spelling.{is_digit, is_digit_byte, is_letter, is_empty, is_numeral, begins}
 use Rattle.va_base.specs.Numerals.{number_of, is_mantissa_byte, mantissa_of, value_of, is_within_limits, decimal_of}
 use Rattle.va_base.proofs.NumberOf.{next_number, number_of-fold}
 use Rattle.va_base.proofs.Tests.{true_not_false, or_left}
@@ -17,7 +17,6 @@ use Rattle.c_tree.specs.declared.token.CTokenKind.{CTokenKind}
 use Rattle.c_tree.specs.declared.token.CTokenKind.TheVariants.{Include, Word as OfWord, Field, Integer, Unsigned, Real, Text, Mark}
 use Rattle.c_tree.specs.tokens.Spelling.{is_token, token_kind, number_kind, tail_kind, is_number_rest, is_number_tail}
 use Rattle.c_tree.specs.tokens.Limits.{has_no_leading_zero, is_at_most, digits_of, tail_of, is_tail_within, is_within}
-use Rattle.c_tree.specs.tokens.Tokens.{begins}
 use Rattle.c_syntax.specs.grammar.Kinds.{is_number_in_name, is_no_digit}
 use Rattle.c_syntax.proofs.Longest.{cond_true, cond_false}
 use Rattle.c_raw_build.specs.Words.{number_zero}

@@ -5,7 +5,7 @@ use Rattle.std.proofs.lemmas.List.{append_cancel_right}
 use Rattle.va_base.proofs.Longest.{some_none, some_same, IsLongest-from}
 use Rattle.va_base.proofs.Tests.{true_not_false}
 use Rattle.va_base.specs.Longest.{longest}
-use Rattle.va_base.specs.Spelling.{is_digit}
+use Rattle.va_base.specs.Spelling.{is_digit, begins}
 use Rattle.predict.specs.declared.symbol.Symbol.{Symbol}
 use Rattle.predict.specs.declared.symbol.Symbol.TheVariants.{Kind, Left}
 use Rattle.predict.specs.Tree.{Tree, Parts, node, no_parts, token, subtree, spelling, spelling_of}
@@ -14,7 +14,7 @@ use Rattle.c_tree.specs.Spelling.{EachHas}
 use Rattle.c_tree.specs.declared.token.CToken.{CToken}
 use Rattle.c_tree.specs.tokens.Spelling.{is_separator, is_token, token_kind}
 use Rattle.c_tree.specs.tokens.Limits.{is_within}
-use Rattle.c_tree.specs.tokens.Tokens.{begins, limited, front_len, CTokens, tokens_at, less_one, tokens_from, c_tokens_of, bytes_of}
+use Rattle.c_tree.specs.tokens.Tokens.{limited, front_len, CTokens, tokens_at, less_one, tokens_from, c_tokens_of, bytes_of}
 use Rattle.c_syntax.specs.Syntax.{text_kinds}
 use Rattle.c_syntax.specs.grammar.Kinds.{kind_of, kind_in}
 use Rattle.c_syntax.specs.grammar.Sets.{c_grammar, c_rules}

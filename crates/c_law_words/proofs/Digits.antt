@@ -8,11 +8,10 @@ use Rattle.std.proofs.lemmas.List.Sums.{fold-append}
 use Rattle.std.proofs.lemmas.List.Folds.{list_all-append}
 use Rattle.std.proofs.lemmas.Fmt.{decimal_by_steps_wide}
 use Rattle.std.proofs.Math.Seq.{take-append_seam, drop-append_seam}
-use Rattle.va_base.specs.Spelling.{is_digit, is_empty}
+use Rattle.va_base.specs.Spelling.{is_digit, is_empty, begins}
 use Rattle.va_base.specs.Numerals.{number_of}
 use Rattle.va_base.proofs.NumberOf.{next_number, number_of-fold}
 use Rattle.va_base.proofs.Tests.{true_not_false, or_right}
-use Rattle.c_tree.specs.tokens.Tokens.{begins}
 use Rattle.c_tree.specs.tokens.Limits.{has_no_leading_zero}
 use Rattle.c_syntax.proofs.Longest.{cond_true, cond_false}
 

@@ -10,14 +10,13 @@ use Rattle.alg_laws.specs.declared.function.Fun1.{Fun1}
 use Rattle.alg_laws.specs.declared.function.Fun1.TheVariants.{Exp, Ln, Log, Sqrt, Sin, Cos, Tan, Asin, Acos, Atan, Sinh, Cosh, Tanh, Asinh, Acosh, Atanh, Floor, Ceil}
 use Rattle.alg_laws.specs.declared.function.Fun2.{Fun2}
 use Rattle.alg_laws.specs.declared.function.Fun2.TheVariants.{Pow, Atan2, Hypot}
-use Rattle.va_base.specs.Spelling.{is_digit, is_letter, is_empty, is_numeral}
+use Rattle.va_base.specs.Spelling.{is_digit, is_letter, is_empty, is_numeral, begins}
 use Rattle.va_base.specs.Numerals.{decimal_of, value_of, number_of, digit_count}
 use Rattle.va_base.proofs.Tests.{true_not_false, or_left, or_right}
 use Rattle.c_tree.specs.Text.{fun1_word, fun2_word, function_word}
 use Rattle.c_tree.specs.Words.{Word, template, numbered}
 use Rattle.c_tree.specs.declared.token.CTokenKind.TheVariants.{Word as OfWord}
 use Rattle.c_tree.specs.tokens.Spelling.{is_word_byte, is_token, token_kind}
-use Rattle.c_tree.specs.tokens.Tokens.{begins}
 use Rattle.c_syntax.specs.grammar.Names.{word_names, place_of}
 use Rattle.c_syntax.specs.grammar.Kinds.{is_no_digit, is_number_in_name, is_second_number, are_two_numbers, numbered_names, numbered_kinds, kind_with_place, numbered_kind, function_names, plain_word_kind, word_kind, kind_of}
 use Rattle.c_syntax.proofs.Longest.{cond_true, cond_false}

@@ -6,7 +6,7 @@ use Rattle.std.proofs.lemmas.Bool.{and_parts, and_from, ltb-true}
 use Rattle.std.proofs.lemmas.Bool.Decides.{nat_tests}
 use Rattle.std.proofs.lemmas.List.{append-nil, drop_all}
 use Rattle.va_base.specs.declared.exact.Decimal.{Decimal}
-use Rattle.va_base.specs.Spelling.{is_digit, is_letter, is_empty, is_digit_byte, are_digits, are_digit_groups, is_after_whole, is_numeral}
+use Rattle.va_base.specs.Spelling.{is_digit, is_letter, is_empty, is_digit_byte, are_digits, are_digit_groups, is_after_whole, is_numeral, begins}
 use Rattle.va_base.specs.Numerals as numerals
 use Rattle.va_base.specs.Numerals.{number_of, digit_count, is_mantissa_byte, mantissa_of, fraction_of, tail_power, is_power, decimal_of}
 use Rattle.va_base.proofs.Decimals.{power_of, decimal-some}
@@ -15,7 +15,6 @@ use Rattle.c_tree.specs.Words.{Word, unsigned}
 use Rattle.c_tree.specs.declared.token.CTokenKind.TheVariants.{Integer, Unsigned}
 use Rattle.c_tree.specs.tokens.Spelling.{is_number_tail, is_number_rest, is_token, tail_kind, number_kind, token_kind}
 use Rattle.c_tree.specs.tokens.Limits.{has_no_leading_zero, is_at_most, is_tail_within, tail_of, is_within}
-use Rattle.c_tree.specs.tokens.Tokens.{begins}
 use Rattle.c_syntax.proofs.Longest.{cond_true, cond_false}
 use Rattle.c_syntax.specs.grammar.Kinds.{is_number_in_name}
 use Rattle.c_law_words.specs.Standing.{is_alone}

@@ -7,13 +7,13 @@ use Rattle.std.proofs.lemmas.Bool.{and_parts, eqb-true}
 use Rattle.std.proofs.lemmas.List.{length-append}
 use Rattle.std.proofs.Math.Seq.{take-append_seam, take-append-add, drop-append_seam}
 use Rattle.va_base.specs.Longest.{IsLongest}
-use Rattle.va_base.specs.Spelling.{is_digit}
+use Rattle.va_base.specs.Spelling.{is_digit, is_in_line}
 use Rattle.va_base.proofs.Longest.{longest_is}
 use Rattle.va_base.proofs.Tests.{true_not_false, and_false, or_false}
 use Rattle.c_tree.specs.Words.{Word, ends_line, spaced, spelled}
 use Rattle.c_tree.specs.declared.token.CToken.{CToken}
 use Rattle.c_tree.specs.declared.token.CTokenKind.{CTokenKind}
-use Rattle.c_tree.specs.tokens.Spelling.{is_separator, is_in_line, is_token, token_kind}
+use Rattle.c_tree.specs.tokens.Spelling.{is_separator, is_token, token_kind}
 use Rattle.c_tree.specs.tokens.Limits.{is_within}
 use Rattle.c_tree.specs.tokens.Tokens.{limited, front_len, token_at, token_before, tokens_at, less_one, tokens_from, bytes_of}
 use Rattle.c_syntax.proofs.Longest.{cond_true, cond_false, no_left, no_right}

@@ -7,13 +7,12 @@ use Rattle.std.proofs.lemmas.Bool.{and_parts, and_from, ltb-true}
 use Rattle.std.proofs.lemmas.Bool.Decides.{nat_tests}
 use Rattle.std.proofs.lemmas.Int.{ints}
 use Rattle.va_base.specs.declared.exact.Decimal.{Decimal}
-use Rattle.va_base.specs.Spelling.{is_digit, is_empty, are_some, is_sign, is_exponent, are_digits}
+use Rattle.va_base.specs.Spelling.{is_digit, is_empty, are_some, is_sign, is_exponent, are_digits, begins}
 use Rattle.va_base.specs.Numerals.{exponent_of, is_power, is_within_limits, decimal_of}
 use Rattle.va_base.proofs.Tests.{true_not_false}
 use Rattle.c_tree.specs.Words.{real_word, power_digits}
 use Rattle.c_tree.specs.tokens.Spelling as spelling
 use Rattle.c_tree.specs.tokens.Limits.{is_plain_power, is_plain_negative}
-use Rattle.c_tree.specs.tokens.Tokens.{begins}
 use Rattle.c_syntax.proofs.Longest.{cond_false}
 use Rattle.c_syntax.specs.grammar.Kinds.{kind_of}
 use Rattle.c_law_words.proofs.Digits.{IsDecimal, is_nonzero, decimal_written}

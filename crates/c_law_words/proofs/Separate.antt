@@ -2,9 +2,9 @@
 use Rattle.std.proofs.Common.{◌≡◌, ℕ, List, [], ◌∷◌, ◌++◌, refl, ap, ◌∙◌}
 use Rattle.std.specs.Prelude.{Bool, true, false, not, ◌==◌, ◌&&◌, if◌then◌else◌, codes}
 use Rattle.std.specs.List.{list_all}
-use Rattle.va_base.specs.Spelling.{is_digit, is_letter, is_empty, are_some}
+use Rattle.va_base.specs.Spelling.{is_digit, is_letter, is_empty, are_some, is_in_line}
 use Rattle.va_base.proofs.Tests.{and_right, and_false, true_not_false}
-use Rattle.c_tree.specs.tokens.Spelling.{is_in_line, is_word_byte, text_then, is_include_rest, is_after_point, is_in_name, is_power, is_number_tail, is_number_rest, is_plain, is_escape, is_string_rest, is_escape_then, is_double_mark, is_mark, is_token}
+use Rattle.c_tree.specs.tokens.Spelling.{is_word_byte, text_then, is_include_rest, is_after_point, is_in_name, is_power, is_number_tail, is_number_rest, is_plain, is_escape, is_string_rest, is_escape_then, is_double_mark, is_mark, is_token}
 use Rattle.c_syntax.proofs.Longest.{cond_false}
 
 -- what a separator isn't

@@ -16,7 +16,7 @@ use Rattle.alg_laws.specs.declared.function.Fun1.{Fun1}
 use Rattle.alg_laws.specs.declared.function.Fun1.TheVariants.{Exp, Ln, Log, Sqrt, Sin, Cos, Tan, Asin, Acos, Atan, Sinh, Cosh, Tanh, Asinh, Acosh, Atanh, Floor, Ceil}
 use Rattle.alg_laws.specs.declared.function.Fun2.{Fun2}
 use Rattle.alg_laws.specs.declared.function.Fun2.TheVariants.{Pow, Atan2, Hypot}
-use Rattle.va_base.specs.Spelling.{is_digit}
+use Rattle.va_base.specs.Spelling.{is_digit, begins}
 use Rattle.va_base.specs.Numerals.{number_of}
 use Rattle.va_base.proofs.NumberOf.{next_number, number_of-fold}
 use Rattle.va_base.proofs.Tests.{true_not_false}
@@ -26,7 +26,6 @@ use Rattle.c_tree.specs.declared.body.CField.TheVariants.{Param, Given, Resist, 
 use Rattle.c_tree.specs.Spelling.{is_unsigned, is_integer, are_bytes, is_number_text, is_lettered, is_field_name, spells_field}
 use Rattle.c_tree.specs.Text.{field_word, fun1_word, fun2_word, function_word}
 use Rattle.c_tree.specs.Words.{template, numbered, unsigned, stands_as_itself, string_byte, string_word}
-use Rattle.c_tree.specs.tokens.Tokens.{begins}
 use Rattle.c_syntax.proofs.Longest.{cond_true, cond_false}
 use Rattle.c_syntax.specs.grammar.Kinds.{is_no_digit, function_names}
 use Rattle.c_raw_build.specs.Words.{octal, string_bytes, between_quotes, first_number, second_number, field_lettered}

@@ -1,12 +1,12 @@
 -- Words that stand for themselves: each is one token, and a space or a line end stands behind it.
 use Rattle.std.specs.Prelude.{◌≡◌, ℕ, ◌+◌, Bool, true, not, ◌==◌, ◌&&◌, ◌||◌, List, [], ◌∷◌, length, map, None}
 use Rattle.std.specs.List.{list_all}
-use Rattle.va_base.specs.Spelling.{is_digit}
+use Rattle.va_base.specs.Spelling.{is_digit, begins}
 use Rattle.c_tree.specs.Words.{Word, ends_line, spelled}
 use Rattle.c_tree.specs.declared.token.CToken.{CToken}
 use Rattle.c_tree.specs.tokens.Spelling.{is_token, token_kind}
 use Rattle.c_tree.specs.tokens.Limits.{is_within}
-use Rattle.c_tree.specs.tokens.Tokens.{begins, bytes_of, c_tokens_of}
+use Rattle.c_tree.specs.tokens.Tokens.{bytes_of, c_tokens_of}
 
 -- A word is a token. A number is within the limits, and a line ends behind an include.
 abbrev pub is_alone : Word → Bool

@@ -10,13 +10,13 @@ ghost use Rattle.c_raw_build.specs.Words.{word_at, number_at, function_at as fun
 
 use alg_laws::{Fun1, Fun2};
 use c_raw::At;
-use c_syntax::bytes::{ByteTest, Digit, front_len};
 use c_syntax::kind_names::functions;
 use c_syntax::kinds::{kind_of, place_of};
 use c_tree::token::CToken;
 use c_tree::{CCallee, CField};
 use std::alloc::{AllocError, Global};
 use std::marker::Model;
+use va_base::bytes::{ByteTest, Digit, front_len};
 use va_base::numeral::decimal;
 use va_base::{Decimal, Name};
 

@@ -4,14 +4,14 @@ use Rattle.std.specs.Prelude.{Bool, true, false, not, ◌==◌, ◌||◌, cond, 
 use Rattle.std.specs.List.{list_all, prefix_len}
 use Rattle.std.proofs.lemmas.Bool.Decides.{nat_tests}
 use Rattle.va_base.specs.Longest.{one_more, longest}
-use Rattle.va_base.specs.Spelling.{is_digit, is_letter}
+use Rattle.va_base.specs.Spelling.{is_digit, is_letter, begins}
 use Rattle.va_base.proofs.Longest.{longest-cons, IsLongest-from}
 use Rattle.va_base.proofs.Tests.{true_not_false, or_left}
 use Rattle.c_tree.specs.declared.token.CTokenKind.{CTokenKind}
 use Rattle.c_tree.specs.declared.token.CTokenKind.TheVariants.{Word, Mark}
 use Rattle.c_tree.specs.tokens.Spelling.{is_word_byte, is_number_rest, is_mark, is_token, number_kind, token_kind}
 use Rattle.c_tree.specs.tokens.Limits.{is_within}
-use Rattle.c_tree.specs.tokens.Tokens.{begins, limited, front_len}
+use Rattle.c_tree.specs.tokens.Tokens.{limited, front_len}
 use Rattle.c_syntax.specs.Fronts.{front, front_with, front_of, is_other_byte}
 use Rattle.c_syntax.proofs.Longest.{cond_true, cond_false, no_left, no_right, longest-all}
 

@@ -3,8 +3,9 @@ use Rattle.std.proofs.Common.{◌≡◌, ◌<◌, ◌≤◌, ◌+◌, ◌-◌, �
 use Rattle.std.specs.Prelude.{true, false}
 use Rattle.std.proofs.lemmas.List.{drop_all, length-drop, append-nil}
 use Rattle.std.proofs.Math.Seq.{drop-cons}
+use Rattle.va_base.specs.Spelling.{begins}
 use Rattle.c_tree.specs.tokens.Spelling.{is_separator, token_kind}
-use Rattle.c_tree.specs.tokens.Tokens.{begins, front_len, CTokens, token_at, token_before, tokens_at, less_one, tokens_from}
+use Rattle.c_tree.specs.tokens.Tokens.{front_len, CTokens, token_at, token_before, tokens_at, less_one, tokens_from}
 use Rattle.c_syntax.specs.declared.front.FrontToken.{FrontToken}
 use Rattle.std.specs.Prelude.{slice_get}
 use Rattle.c_syntax.specs.Places.{first_of}

@@ -6,10 +6,9 @@ use Rattle.std.proofs.lemmas.Bool.{eqb-true}
 use Rattle.std.proofs.lemmas.List.{take_rest}
 use Rattle.std.proofs.Math.Seq.{drop-nil}
 use Rattle.va_base.specs.Longest.{one_more, longest}
-use Rattle.va_base.specs.Spelling.{are_some}
+use Rattle.va_base.specs.Spelling.{are_some, begins}
 use Rattle.va_base.proofs.Longest.{longest-none, longest-cons, longest-same, longest-nil}
 use Rattle.va_base.proofs.Tests.{true_not_false}
-use Rattle.c_tree.specs.tokens.Tokens.{begins}
 use Rattle.c_syntax.specs.Fronts.{shifted, above_zero}
 
 pub cond_true : {A : Type 0} (b : Bool) (x y : A) → b ≡ true → cond b x y ≡ x

@@ -5,12 +5,11 @@ use Rattle.std.specs.List.{list_all, prefix_len}
 use Rattle.std.proofs.lemmas.Bool.{eqb-true, eq-eqb}
 use Rattle.std.proofs.lemmas.List.{length-drop}
 use Rattle.va_base.specs.Longest.{one_more, longest}
-use Rattle.va_base.specs.Spelling.{is_letter}
+use Rattle.va_base.specs.Spelling.{is_letter, begins, is_in_line}
 use Rattle.va_base.proofs.Longest.{longest-none, longest-cons, longest-nil}
 use Rattle.va_base.proofs.Tests.{not_true, true_not_false, and_left, and_right}
 use Rattle.c_tree.specs.declared.token.CTokenKind.TheVariants.{Include, Field}
-use Rattle.c_tree.specs.tokens.Spelling.{is_word_byte, is_in_line, text_then, is_include_rest, is_after_point, is_in_name}
-use Rattle.c_tree.specs.tokens.Tokens.{begins}
+use Rattle.c_tree.specs.tokens.Spelling.{is_word_byte, text_then, is_include_rest, is_after_point, is_in_name}
 use Rattle.c_syntax.specs.Fronts.{front, front_of, begins_name}
 use Rattle.c_syntax.proofs.Longest.{cond_true, cond_false, rest_of, first-literal, none_passes, longest-all, drop-drop}
 use Rattle.c_syntax.proofs.Fronts.{front-some, front-none}

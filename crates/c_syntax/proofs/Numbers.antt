@@ -4,13 +4,12 @@ use Rattle.std.specs.Prelude.{Bool, true, false, ◌==◌, ◌&&◌, cond, nat_e
 use Rattle.std.specs.List.{list_all, prefix_len}
 use Rattle.std.proofs.lemmas.Bool.{eqb-true, eq-eqb}
 use Rattle.va_base.specs.Longest.{one_more, longest}
-use Rattle.va_base.specs.Spelling.{is_empty, are_some, is_digit}
+use Rattle.va_base.specs.Spelling.{is_empty, are_some, is_digit, begins}
 use Rattle.va_base.proofs.Longest.{longest-cons, longest-nil}
 use Rattle.va_base.proofs.Numerals.{longest-is_empty}
 use Rattle.va_base.proofs.Tests.{not_true, true_not_false}
 use Rattle.c_tree.specs.tokens.Spelling.{is_power, is_number_tail, is_number_rest, tail_kind, number_kind}
 use Rattle.c_tree.specs.tokens.Limits.{is_within}
-use Rattle.c_tree.specs.tokens.Tokens.{begins}
 use Rattle.c_syntax.specs.Fronts.{front, front_of, above_zero}
 use Rattle.c_syntax.proofs.Longest.{cond_true, cond_false, rest_of, rest-cons, none_passes, longest-first, longest-some}
 use Rattle.c_syntax.proofs.Fronts.{front-number}

@@ -3,13 +3,12 @@ use Rattle.std.proofs.Common.{◌≡◌, ◌<◌, ◌+◌, ℕ, suc, List, [], �
 use Rattle.std.specs.Prelude.{Bool, true, false, ◌==◌, ◌&&◌, cond, IsTrue}
 use Rattle.std.proofs.lemmas.Bool.{eqb-true}
 use Rattle.va_base.specs.Longest.{one_more, longest}
-use Rattle.va_base.specs.Spelling.{is_empty}
+use Rattle.va_base.specs.Spelling.{is_empty, begins}
 use Rattle.va_base.proofs.Longest.{longest-cons, longest-nil}
 use Rattle.va_base.proofs.Numerals.{longest-is_empty}
 use Rattle.va_base.proofs.Tests.{not_true, true_not_false, and_left, and_right}
 use Rattle.c_tree.specs.declared.token.CTokenKind.TheVariants.{Text}
 use Rattle.c_tree.specs.tokens.Spelling.{is_plain, is_escape, is_string_rest, is_escape_then}
-use Rattle.c_tree.specs.tokens.Tokens.{begins}
 use Rattle.c_syntax.specs.Fronts.{front, front_of, shifted, begins_escape}
 use Rattle.c_syntax.proofs.Longest.{cond_true, cond_false, rest_of, first-literal, none_passes, shifted-one, shifted-four}
 use Rattle.c_syntax.proofs.Fronts.{front-some, front-none}

@@ -4,14 +4,16 @@
 ghost use Rattle.std.specs.Prelude.{◌≡◌, ◌<◌, ◌≤◌, ◌==◌, IsTrue, IfSome, Some, None, codes, drop, length, if◌then◌else◌};
 ghost use Rattle.std.specs.List.{starts_with};
 ghost use Rattle.va_base.specs.Longest.{longest};
+ghost use Rattle.va_base.specs.Spelling as base;
 ghost use Rattle.va_base.specs.Spelling.{is_letter, is_digit};
 ghost use Rattle.c_tree.specs.tokens.Spelling as spelling;
 ghost use Rattle.c_tree.specs.tokens.Tokens as tokens;
 ghost use Rattle.c_syntax.specs.Fronts as fronts;
 
-use crate::bytes::{ByteTest, Digit, InLine, Letter, WordByte, begins, begins_with, front_len};
+use crate::bytes::WordByte;
 use crate::number::{is_within, tail_kind, tail_len};
 use c_tree::token::CTokenKind;
+use va_base::bytes::{ByteTest, Digit, InLine, Letter, begins, begins_with, front_len};
 
 /// What stands at the front of a text: a token of a kind, and how many bytes it has.
 #[derive(Clone, Copy, Debug, PartialEq, Eq)]
@@ -21,7 +23,7 @@ pub struct FrontToken {
 }
 
 fn word(text: &[u8]) -> Option<FrontToken>
-    requires { IsTrue (tokens.begins is_letter text.now) }
+    requires { IsTrue (begins is_letter text.now) }
     ensures { result ≡ fronts.front_of text.now }
 {
     Some(FrontToken {
@@ -31,7 +33,7 @@ fn word(text: &[u8]) -> Option<FrontToken>
 }
 
 fn number(text: &[u8]) -> Option<FrontToken>
-    requires { IsTrue (tokens.begins is_digit text.now) }
+    requires { IsTrue (begins is_digit text.now) }
     ensures { result ≡ fronts.front_of text.now }
 {
     let digits = front_len::<Digit>(text);
@@ -46,7 +48,7 @@ fn number(text: &[u8]) -> Option<FrontToken>
 
 /// `#include` and its line.
 fn include(text: &[u8]) -> Option<FrontToken>
-    requires { IsTrue (tokens.begins (λ first. first == 35) text.now) }
+    requires { IsTrue (begins (λ first. first == 35) text.now) }
     ensures { result ≡ fronts.front_of text.now }
 {
     let rest = &text[1..];
@@ -81,7 +83,7 @@ fn name_len(text: &[u8]) -> usize
 
 /// The name of a field.
 fn field(text: &[u8]) -> Option<FrontToken>
-    requires { IsTrue (tokens.begins (λ first. first == 46) text.now) }
+    requires { IsTrue (begins (λ first. first == 46) text.now) }
     ensures { result ≡ fronts.front_of text.now }
 {
     if !begins_name(text) {
@@ -128,7 +130,7 @@ fn begins_escape(rest: &[u8]) -> bool
 fn unit_len(rest: &[u8]) -> usize
     ensures unit { 0 < result → longest spelling.is_string_rest rest.now ≡ fronts.shifted result (longest spelling.is_string_rest (drop result rest.now)) }
     ensures none { result ≡ 0
-        → longest spelling.is_string_rest rest.now ≡ (if tokens.begins (λ first. first == 34) rest.now then Some 1 else None) }
+        → longest spelling.is_string_rest rest.now ≡ (if base.begins (λ first. first == 34) rest.now then Some 1 else None) }
     ensures within { result ≤ length rest.now }
 {
     if rest.is_empty() {
@@ -159,7 +161,7 @@ fn string_rest_len(rest: &[u8]) -> Option<usize>
 }
 
 fn string(text: &[u8]) -> Option<FrontToken>
-    requires { IsTrue (tokens.begins (λ first. first == 34) text.now) }
+    requires { IsTrue (begins (λ first. first == 34) text.now) }
     ensures { result ≡ fronts.front_of text.now }
 {
     match string_rest_len(&text[1..]) {
@@ -236,7 +238,7 @@ fn mark_len(text: &[u8]) -> Option<usize>
 }
 
 fn mark(text: &[u8]) -> Option<FrontToken>
-    requires { IsTrue (tokens.begins fronts.is_other_byte text.now) }
+    requires { IsTrue (begins fronts.is_other_byte text.now) }
     ensures { result ≡ fronts.front_of text.now }
 {
     match mark_len(text) {

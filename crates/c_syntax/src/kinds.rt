@@ -6,12 +6,12 @@ ghost use Rattle.c_syntax.specs.grammar.Names as name_rules;
 ghost use Rattle.c_syntax.specs.grammar.Kinds as kind_rules;
 ghost use Rattle.c_syntax.specs.Fronts.{IsWithin};
 
-use crate::bytes::{ByteTest, Digit, front_len};
 use crate::kind_names::{fields, functions, includes, marks, numbered, words};
 use crate::number::is_number_in_name;
 use c_tree::token::{CToken, CTokenKind};
 use std::alloc::Global;
 use va_base::NoMemory;
+use va_base::bytes::{ByteTest, Digit, front_len};
 
 /// The kind that ends a text.
 const END: u16 = 0;

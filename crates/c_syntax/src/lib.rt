@@ -1,7 +1,7 @@
 //! Reads C files: their tokens, and whether the grammar spells them.
 #![tactic(auto)]
 
-pub mod bytes;
+mod bytes;
 pub mod c_rows;
 pub mod error;
 pub mod fault_place;

@@ -8,9 +8,9 @@ ghost use Rattle.c_tree.specs.tokens.Limits as limits;
 ghost use Rattle.c_syntax.specs.grammar.Kinds as kinds;
 ghost use Rattle.c_syntax.specs.Fronts.{is_power_front};
 
-use crate::bytes::{Digit, begins_with, front_len};
 use c_tree::token::CTokenKind;
 use va_base::Decimal;
+use va_base::bytes::{Digit, begins_with, front_len};
 use va_base::numeral::decimal;
 
 /// How many bytes at the front are a power of ten, or 0 where none stands there.

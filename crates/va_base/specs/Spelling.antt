@@ -25,6 +25,15 @@ is_visible byte = nat_le 33 byte && nat_le byte 126
 abbrev pub is_text_byte : ℕ → Bool
 is_text_byte byte = byte == 9 || nat_le 32 byte && nat_le byte 126 || nat_le 128 byte
 
+-- what stands on one line
+abbrev pub is_in_line : ℕ → Bool
+is_in_line byte = not (byte == 10)
+
+-- the first byte passes
+abbrev pub begins : (ℕ → Bool) → List ℕ → Bool
+begins test [] = false
+begins test (c ∷ rest) = test c
+
 abbrev pub is_empty : List ℕ → Bool
 is_empty [] = true
 is_empty (c ∷ rest) = false

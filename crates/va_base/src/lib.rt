@@ -1,6 +1,7 @@
 //! What every crate speaks of: places, names, lists, files as values, tokens, numerals, faults, and want of memory.
 #![tactic(auto)]
 
+pub mod bytes;
 pub mod exact;
 pub mod expanded;
 pub mod fault;

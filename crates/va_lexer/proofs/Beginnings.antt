@@ -7,12 +7,12 @@ use Rattle.std.proofs.lemmas.Bool.Decides.{nat_tests}
 use Rattle.std.proofs.lemmas.List.{take_rest}
 use Rattle.va_base.specs.declared.token.TokenKind.TheVariants.{Word, System, Tick, Number, Text, Mark, Newline, Bad}
 use Rattle.va_base.specs.Longest.{one_more, longest, IsLongest, HasNone}
-use Rattle.va_base.specs.Spelling.{byte_then, are_some, is_empty, is_letter, is_digit, is_word_byte, is_visible, is_simple_word, is_escaped_word, is_word, is_system, is_tick, is_numeral, is_text, is_text_rest, is_mark, is_newline}
+use Rattle.va_base.specs.Spelling.{byte_then, are_some, is_empty, is_letter, is_digit, is_word_byte, is_visible, is_simple_word, is_escaped_word, is_word, is_system, is_tick, is_numeral, is_text, is_text_rest, is_mark, is_newline, begins, is_in_line}
 use Rattle.va_base.proofs.Longest.{longest_is, longest-none, longest-cons, longest-same, longest-nil, IsLongest-from, HasNone-from}
 use Rattle.va_base.proofs.Numerals.{longest-is_empty}
 use Rattle.va_base.proofs.Tests.{not_true, true_not_false, and_left, and_right, and_true, and_false, or_left, or_right, or_cases, or_false}
-use Rattle.va_lexer.specs.Separators.{is_blank, is_in_line, is_white_space, is_line_comment, is_block_comment, is_comment_rest, is_line_end, is_continued_line}
-use Rattle.va_lexer.specs.Pieces.{begins, piece, bad, is_piece, piece_kind, numeral_kind, is_open_comment, is_open_text, front, is_other_byte, shifted}
+use Rattle.va_lexer.specs.Separators.{is_blank, is_white_space, is_line_comment, is_block_comment, is_comment_rest, is_line_end, is_continued_line}
+use Rattle.va_lexer.specs.Pieces.{piece, bad, is_piece, piece_kind, numeral_kind, is_open_comment, is_open_text, front, is_other_byte, shifted}
 use Rattle.va_lexer.proofs.FirstBytes.{IsPlain, letter_plain, blank_plain, digit_plain, piece-letter, piece-digit, piece-blank, piece-other, piece-newline, piece-quote, piece-dollar, piece-tick, piece-backslash, piece-slash, or_nothing}
 use Rattle.va_lexer.proofs.Fronts.{longest-first, longest-fronts, longest-all, piece-nil, numeral-nil, front-kind, front-by, front-bad-by}
 use Rattle.va_lexer.proofs.PieceKinds.{kind-letter, kind-digit, kind-other, kind-newline, kind-quote, kind-dollar, kind-tick, kind-escaped, kind-slash, kind-blank, kind-continued, kind-line, kind-block}

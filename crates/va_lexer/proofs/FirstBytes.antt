@@ -5,10 +5,10 @@ use Rattle.std.specs.List.{list_all, list_any, slice_split, prefix_len, take_whi
 use Rattle.std.specs.Str.{bytes_eq}
 use Rattle.std.proofs.lemmas.Bool.{eqb-true}
 use Rattle.std.proofs.lemmas.Bool.Decides.{nat_tests}
-use Rattle.va_base.specs.Spelling.{byte_then, is_empty, is_letter, is_digit, is_digit_byte, is_word_byte, is_simple_word, is_escaped_word, is_system, is_tick, is_text, is_newline, are_digits, is_numeral, is_single_mark, is_double_mark, is_mark}
+use Rattle.va_base.specs.Spelling.{byte_then, is_empty, is_letter, is_digit, is_digit_byte, is_word_byte, is_simple_word, is_escaped_word, is_system, is_tick, is_text, is_newline, are_digits, is_numeral, is_single_mark, is_double_mark, is_mark, begins}
 use Rattle.va_base.proofs.Tests.{not_true, true_not_false, and_left, and_right, and_true, and_false, or_left, or_right, or_cases, or_false}
 use Rattle.va_lexer.specs.Separators.{is_blank, is_white_space, is_line_comment, is_block_comment, is_continued_line}
-use Rattle.va_lexer.specs.Pieces.{begins, is_piece, is_open_comment, is_open_text}
+use Rattle.va_lexer.specs.Pieces.{is_piece, is_open_comment, is_open_text}
 
 pub or_nothing : (b : Bool) → b || false ≡ b
 or_nothing true = refl

@@ -4,12 +4,12 @@ use Rattle.std.specs.Prelude.{Bool, true, false, not, ◌==◌, ◌&&◌, ◌||�
 use Rattle.std.specs.List.{list_all, prefix_len}
 use Rattle.std.proofs.lemmas.Bool.Decides.{nat_tests}
 use Rattle.va_base.specs.Longest.{one_more, longest, IsLongest, HasNone}
-use Rattle.va_base.specs.Spelling.{byte_then, is_empty, is_text_byte, is_text_rest, is_single_mark, is_double_mark, is_mark, is_newline}
+use Rattle.va_base.specs.Spelling.{byte_then, is_empty, is_text_byte, is_text_rest, is_single_mark, is_double_mark, is_mark, is_newline, begins}
 use Rattle.va_base.proofs.Longest.{longest_is, longest-none, longest-cons, longest-same, longest-nil, IsLongest-from, HasNone-from}
 use Rattle.va_base.proofs.Numerals.{longest-is_empty}
 use Rattle.va_base.proofs.Tests.{not_true, true_not_false, and_left, and_right, and_true, and_false, or_left, or_right, or_cases, or_false}
 use Rattle.va_lexer.specs.Separators.{closes_comment, is_comment_rest, is_line_end}
-use Rattle.va_lexer.specs.Pieces.{begins, begins_double_mark, shifted}
+use Rattle.va_lexer.specs.Pieces.{begins_double_mark, shifted}
 use Rattle.va_lexer.proofs.FirstBytes.{or_nothing}
 use Rattle.va_lexer.proofs.Fronts.{longest-fronts}
 use Rattle.va_lexer.proofs.PieceKinds.{cond_false}

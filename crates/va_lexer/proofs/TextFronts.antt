@@ -7,11 +7,11 @@ use Rattle.std.proofs.lemmas.Bool.Decides.{nat_tests}
 use Rattle.std.proofs.Math.Seq.{drop-cons}
 use Rattle.va_base.specs.declared.token.TokenKind.TheVariants.{Mark}
 use Rattle.va_base.specs.Longest.{one_more, longest}
-use Rattle.va_base.specs.Spelling.{is_letter, is_digit, is_word_byte, is_text_byte, is_text_rest, is_single_mark, is_mark}
+use Rattle.va_base.specs.Spelling.{is_letter, is_digit, is_word_byte, is_text_byte, is_text_rest, is_single_mark, is_mark, begins, is_in_line}
 use Rattle.va_base.proofs.Longest.{longest-nil}
 use Rattle.va_base.proofs.Tests.{not_true, true_not_false, or_left, or_false, and_left, and_right}
-use Rattle.va_lexer.specs.Separators.{is_blank, closes_comment, is_comment_rest, is_line_end, is_in_line}
-use Rattle.va_lexer.specs.Pieces.{begins, begins_double_mark, is_other_byte, front, piece, shifted}
+use Rattle.va_lexer.specs.Separators.{is_blank, closes_comment, is_comment_rest, is_line_end}
+use Rattle.va_lexer.specs.Pieces.{begins_double_mark, is_other_byte, front, piece, shifted}
 use Rattle.va_lexer.proofs.Beginnings.{rest_of, rest-cons, front-slash-end, front-slash-mark}
 use Rattle.va_lexer.proofs.FirstBytes.{IsPlain, no_left, no_right}
 use Rattle.va_lexer.proofs.Scans.{shifted-none, shifted-shifted, text-quote, text-plain, text-stop, text-pair, text-no_pair, comment-close, comment-more, line-newline, line-return, line-no_newline, line-other, mark-double, mark-single, mark-none}

@@ -10,13 +10,12 @@ use Rattle.std.proofs.lemmas.List.Sums.{prefix_len-le-length, fold_more}
 use Rattle.va_base.specs.declared.place.Place.{Place}
 use Rattle.va_base.specs.declared.token.Token.{Token}
 use Rattle.va_base.specs.Longest.{longest, IsLongest}
-use Rattle.va_base.specs.Spelling.{is_text}
+use Rattle.va_base.specs.Spelling.{is_text, begins, is_in_line}
 use Rattle.va_base.proofs.Longest.{IsLongest-from}
 use Rattle.va_base.proofs.Tests.{true_not_false, not_true, and_left}
 use Rattle.va_lexer.specs.declared.Line.{Line}
 use Rattle.va_lexer.specs.declared.piece.Piece.{Piece}
-use Rattle.va_lexer.specs.Separators.{is_in_line}
-use Rattle.va_lexer.specs.Pieces.{begins, bad, is_piece, is_open_comment, is_open_text, longest_piece, front}
+use Rattle.va_lexer.specs.Pieces.{bad, is_piece, is_open_comment, is_open_text, longest_piece, front}
 use Rattle.va_lexer.specs.Tokens.{after, places_after, place_in, token_of, tokens_from}
 use Rattle.va_lexer.proofs.Fronts.{piece-nil}
 

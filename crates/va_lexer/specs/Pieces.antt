@@ -5,10 +5,10 @@ use Rattle.std.specs.List.{prefix_len}
 use Rattle.va_base.specs.declared.token.TokenKind.{TokenKind}
 use Rattle.va_base.specs.declared.token.TokenKind.TheVariants.{Word, System, Tick, Number, Text, Mark, Newline, Bad}
 use Rattle.va_base.specs.Longest.{longest}
-use Rattle.va_base.specs.Spelling.{byte_then, is_letter, is_digit, is_word, is_system, is_tick, is_numeral, is_text, is_double_mark, is_mark, is_newline}
+use Rattle.va_base.specs.Spelling.{begins, byte_then, is_letter, is_digit, is_word, is_system, is_tick, is_numeral, is_text, is_double_mark, is_mark, is_newline, is_in_line}
 use Rattle.va_base.specs.Numerals.{decimal_of}
 use Rattle.va_lexer.specs.declared.piece.Piece.{Piece}
-use Rattle.va_lexer.specs.Separators.{is_blank, is_in_line, is_separator, is_block_comment}
+use Rattle.va_lexer.specs.Separators.{is_blank, is_separator, is_block_comment}
 
 -- bytes that spell a token of some kind
 abbrev pub is_token : List ℕ → Bool
@@ -43,11 +43,6 @@ piece kind len = record { kind = kind; len = len }
 -- so many bytes that are no token
 abbrev pub bad : ℕ → Piece
 bad len = piece (Some Bad) len
-
--- the first byte passes
-abbrev pub begins : (ℕ → Bool) → List ℕ → Bool
-begins test [] = false
-begins test (c ∷ rest) = test c
 
 -- `/*` stands at the front, and no front is a comment: the comment has no end
 abbrev pub is_open_comment : List ℕ → Bool

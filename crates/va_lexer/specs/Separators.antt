@@ -1,7 +1,7 @@
 -- What separates tokens and gives none (White space, Comments). Each is a test on a whole list of bytes.
 use Rattle.std.specs.Prelude.{ℕ, Bool, true, false, not, ◌==◌, ◌&&◌, ◌||◌, List, [], ◌∷◌, if◌then◌else◌}
 use Rattle.std.specs.List.{list_all}
-use Rattle.va_base.specs.Spelling.{byte_then, are_some, is_empty, is_newline}
+use Rattle.va_base.specs.Spelling.{byte_then, are_some, is_empty, is_in_line, is_newline}
 
 -- a tab, a carriage return or a space
 abbrev pub is_blank : ℕ → Bool
@@ -9,10 +9,6 @@ is_blank byte = byte == 9 || byte == 13 || byte == 32
 
 abbrev pub is_white_space : List ℕ → Bool
 is_white_space = are_some is_blank
-
--- what stands on one line
-abbrev pub is_in_line : ℕ → Bool
-is_in_line byte = not (byte == 10)
 
 -- `//`, and what stands before the line's end
 abbrev pub is_line_comment : List ℕ → Bool

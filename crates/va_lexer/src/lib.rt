@@ -4,7 +4,7 @@
 ghost use Rattle.std.specs.Prelude.{◌≡◌, ◌<◌, ◌≤◌, ◌+◌, ◌^◌, ℕ, IfOk, length};
 ghost use Rattle.va_lexer.specs.Tokens.{tokens_of, place_in, places_after};
 
-pub mod bytes;
+mod bytes;
 pub mod piece;
 pub mod worked;
 

@@ -10,11 +10,9 @@ ghost use Rattle.va_lexer.specs.Separators.{is_comment_rest, is_line_end, is_bla
 ghost use Rattle.va_lexer.specs.Pieces as pieces;
 ghost use Rattle.va_lexer.specs.Pieces.{piece, shifted, is_other_byte};
 
-use crate::bytes::{
-    Blank, ByteTest, Digit, InLine, Letter, TextByte, Visible, WordByte, begins, begins_with,
-    front_len,
-};
+use crate::bytes::{Blank, TextByte, Visible, WordByte};
 use va_base::TokenKind;
+use va_base::bytes::{ByteTest, Digit, InLine, Letter, begins, begins_with, front_len};
 use va_base::numeral::{decimal, numeral_len};
 
 /// A piece of a text: its kind, which a separator lacks, and how many bytes it has.
@@ -41,21 +39,21 @@ fn separator(len: usize) -> Piece
 
 /// A word of the first form.
 fn simple_word(text: &[u8]) -> Piece
-    requires { IsTrue (pieces.begins is_letter text.now) }
+    requires { IsTrue (spelling.begins is_letter text.now) }
     ensures { result ≡ pieces.front text.now }
 {
     token(TokenKind::Word, front_len::<WordByte>(text))
 }
 
 fn white_space(text: &[u8]) -> Piece
-    requires { IsTrue (pieces.begins is_blank text.now) }
+    requires { IsTrue (spelling.begins is_blank text.now) }
     ensures { result ≡ pieces.front text.now }
 {
     separator(front_len::<Blank>(text))
 }
 
 fn line_end(text: &[u8]) -> Piece
-    requires { IsTrue (pieces.begins (λ first. first == 10) text.now) }
+    requires { IsTrue (spelling.begins (λ first. first == 10) text.now) }
     ensures { result ≡ pieces.front text.now }
 {
     token(TokenKind::Newline, 1)
@@ -73,7 +71,7 @@ fn numeral_kind(bytes: &[u8]) -> TokenKind
 }
 
 fn number(text: &[u8]) -> Piece
-    requires { IsTrue (pieces.begins is_digit text.now) }
+    requires { IsTrue (spelling.begins is_digit text.now) }
     ensures { result ≡ pieces.front text.now }
 {
     let Some(len) = numeral_len(text) else {
@@ -84,7 +82,7 @@ fn number(text: &[u8]) -> Piece
 
 /// A system name, or a `$` alone.
 fn system_name(text: &[u8]) -> Piece
-    requires { IsTrue (pieces.begins (λ first. first == 36) text.now) }
+    requires { IsTrue (spelling.begins (λ first. first == 36) text.now) }
     ensures { result ≡ pieces.front text.now }
 {
     let len = front_len::<WordByte>(&text[1..]);
@@ -96,7 +94,7 @@ fn system_name(text: &[u8]) -> Piece
 
 /// A backquote with its word, or alone.
 fn tick(text: &[u8]) -> Piece
-    requires { IsTrue (pieces.begins (λ first. first == 96) text.now) }
+    requires { IsTrue (spelling.begins (λ first. first == 96) text.now) }
     ensures { result ≡ pieces.front text.now }
 {
     let word = &text[1..];
@@ -111,7 +109,7 @@ fn tick(text: &[u8]) -> Piece
 fn text_unit_len(rest: &[u8]) -> usize
     ensures unit { 0 < result → longest is_text_rest rest.now ≡ shifted result (longest is_text_rest (drop result rest.now)) }
     ensures none { result ≡ 0
-        → longest is_text_rest rest.now ≡ (if pieces.begins (λ first. first == 34) rest.now then Some 1 else None) }
+        → longest is_text_rest rest.now ≡ (if spelling.begins (λ first. first == 34) rest.now then Some 1 else None) }
     ensures within { result ≤ length rest.now }
 {
     if begins_with(rest, b'"') {
@@ -146,7 +144,7 @@ fn text_rest_len(rest: &[u8]) -> Option<usize>
 
 /// A string, or what stands up to the line's end where none begins.
 fn string(text: &[u8]) -> Piece
-    requires { IsTrue (pieces.begins (λ first. first == 34) text.now) }
+    requires { IsTrue (spelling.begins (λ first. first == 34) text.now) }
     ensures { result ≡ pieces.front text.now }
 {
     match text_rest_len(&text[1..]) {
@@ -175,7 +173,7 @@ fn line_end_len(text: &[u8]) -> Option<usize>
 
 /// An escaped word, a line that goes on, or a `\` alone.
 fn backslash(text: &[u8]) -> Piece
-    requires { IsTrue (pieces.begins (λ first. first == 92) text.now) }
+    requires { IsTrue (spelling.begins (λ first. first == 92) text.now) }
     ensures { result ≡ pieces.front text.now }
 {
     let rest = &text[1..];
@@ -212,7 +210,7 @@ fn comment_rest_len(rest: &[u8]) -> Option<usize>
 
 /// A comment, or a `/` alone.
 fn slash(text: &[u8]) -> Piece
-    requires { IsTrue (pieces.begins (λ first. first == 47) text.now) }
+    requires { IsTrue (spelling.begins (λ first. first == 47) text.now) }
     ensures { result ≡ pieces.front text.now }
 {
     let rest = &text[1..];
@@ -296,7 +294,7 @@ fn mark_len(text: &[u8]) -> Option<usize>
 
 /// A mark, or one byte that begins no token.
 fn mark(text: &[u8]) -> Piece
-    requires { IsTrue (pieces.begins is_other_byte text.now) }
+    requires { IsTrue (spelling.begins is_other_byte text.now) }
     ensures { result ≡ pieces.front text.now }
 {
     match mark_len(text) {

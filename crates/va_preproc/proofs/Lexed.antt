@@ -9,11 +9,11 @@ use Rattle.va_base.specs.declared.token.Token.{Token}
 use Rattle.va_base.specs.declared.token.TokenKind.{TokenKind}
 use Rattle.va_base.specs.declared.token.TokenKind.TheVariants.{Word, System, Tick, Number, Text, Mark, Newline, Bad, End}
 use Rattle.va_base.specs.Expansion.{is_kept}
-use Rattle.va_base.specs.Spelling.{spells, is_word, is_system, is_tick, is_numeral, is_text, is_mark}
+use Rattle.va_base.specs.Spelling.{spells, is_word, is_system, is_tick, is_numeral, is_text, is_mark, is_in_line}
 use Rattle.va_base.specs.Numerals.{decimal_of}
 use Rattle.va_base.specs.Longest.{longest}
 use Rattle.va_lexer.specs.declared.piece.Piece.{Piece}
-use Rattle.va_lexer.specs.Separators.{is_in_line, is_separator}
+use Rattle.va_lexer.specs.Separators.{is_separator}
 use Rattle.va_lexer.specs.Pieces.{is_piece, numeral_kind, token_kind, piece_kind, bad, is_open_comment, is_open_text, longest_piece, front}
 use Rattle.va_lexer.specs.Tokens.{after, token_of, tokens_from, tokens_of}
 use Rattle.va_lexer.proofs.TokenLists.{front-fits}

@@ -3,7 +3,7 @@
 use Rattle.std.specs.Prelude.{ℕ, Bool, true, false, not, ◌==◌, ◌&&◌, ◌||◌, nat_le, List, [], ◌∷◌, ◌+◌, ◌*◌, ◌-◌, if◌then◌else◌, codes}
 use Rattle.std.specs.List.{list_all, list_any, slice_split}
 use Rattle.std.specs.Str.{bytes_eq}
-use Rattle.va_base.specs.Spelling.{is_digit, is_letter, is_empty, are_some, byte_then}
+use Rattle.va_base.specs.Spelling.{is_digit, is_letter, is_empty, is_in_line, are_some, byte_then}
 use Rattle.c_tree.specs.declared.token.CTokenKind.{CTokenKind}
 use Rattle.c_tree.specs.declared.token.CTokenKind.TheVariants.{Include, Word, Field, Integer, Unsigned, Real, Text, Mark}
 
@@ -14,10 +14,6 @@ is_separator byte = byte == 10 || byte == 32
 -- what words go on with: a letter, a digit or `_`
 abbrev pub is_word_byte : ℕ → Bool
 is_word_byte byte = is_letter byte || is_digit byte
-
--- what stands on one line
-abbrev pub is_in_line : ℕ → Bool
-is_in_line byte = not (byte == 10)
 
 -- certain bytes, and then what passes
 abbrev pub text_then : List ℕ → (List ℕ → Bool) → List ℕ → Bool

@@ -1,15 +1,10 @@
 -- The tokens of a C file in order, and the first byte that begins none.
 use Rattle.std.specs.Prelude.{ℕ, zero, suc, ◌+◌, ◌-◌, Bool, false, List, [], ◌∷◌, Option, Some, None, if◌then◌else◌, take, drop}
 use Rattle.va_base.specs.Longest.{longest}
-use Rattle.va_base.specs.Spelling.{is_digit}
+use Rattle.va_base.specs.Spelling.{begins, is_digit}
 use Rattle.c_tree.specs.declared.token.CToken.{CToken}
 use Rattle.c_tree.specs.tokens.Spelling.{is_separator, is_token, token_kind}
 use Rattle.c_tree.specs.tokens.Limits.{is_within}
-
--- the first byte passes
-abbrev pub begins : (ℕ → Bool) → List ℕ → Bool
-begins test [] = false
-begins test (c ∷ rest) = test c
 
 -- a front of this length, where it isn't a number outside the limits
 abbrev pub limited : List ℕ → Option ℕ → Option ℕ

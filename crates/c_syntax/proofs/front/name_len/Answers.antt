@@ -1,9 +1,9 @@
 use Rattle.std.proofs.Common.{◌≡◌, ◌+◌, length, drop, ap, sym, ◌∙◌, arith, Some, true, false}
 use Rattle.std.proofs.lemmas.List.{take_rest, length-drop}
 use Rattle.std.specs.List.{prefix_len}
+use Rattle.va_base.specs.Spelling.{begins}
 use Rattle.va_base.specs.Longest.{longest}
 use Rattle.c_tree.specs.tokens.Spelling.{is_word_byte, is_in_name}
-use Rattle.c_tree.specs.tokens.Tokens.{begins}
 use Rattle.c_syntax.specs.Fronts.{begins_name}
 use Rattle.c_syntax.proofs.Names.{name-word, word-ends, name-stop, next-name}
 use Rattle.c_syntax.proofs.front.name_len.Goals as goal

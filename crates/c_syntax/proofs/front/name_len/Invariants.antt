@@ -1,8 +1,8 @@
 use Rattle.std.proofs.Common.{◌≡◌, ◌≤◌, ◌-◌, ◌+◌, ℕ, length, drop, Some}
 use Rattle.std.specs.Prelude.{false}
+use Rattle.va_base.specs.Spelling.{begins}
 use Rattle.va_base.specs.Longest.{longest}
 use Rattle.c_tree.specs.tokens.Spelling.{is_word_byte, is_in_name}
-use Rattle.c_tree.specs.tokens.Tokens.{begins}
 use Rattle.c_syntax.proofs.front.name_len.Given as goal
 
 abbrev pub invariant-names : goal.invariant-names

@@ -1,8 +1,8 @@
 use Rattle.std.proofs.Common.{◌≡◌, ◌≤◌, ◌-◌, ◌<◌, ◌+◌, length, drop, cond, Some, None}
 use Rattle.std.specs.Prelude.{◌==◌}
+use Rattle.va_base.specs.Spelling.{begins}
 use Rattle.va_base.specs.Longest.{longest}
 use Rattle.c_tree.specs.tokens.Spelling.{is_string_rest}
-use Rattle.c_tree.specs.tokens.Tokens.{begins}
 use Rattle.c_syntax.specs.Fronts.{shifted}
 use Rattle.c_syntax.proofs.front.string_rest_len.Given as goal
 

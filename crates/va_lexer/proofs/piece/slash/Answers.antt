@@ -1,6 +1,6 @@
 use Rattle.std.proofs.Common.{◌≡◌, ◌<◌, ◌≤◌, ◌+◌, ℕ, suc, List, ◌∷◌, length, take, drop, refl, ap, sym, ◌∙◌, arith, Option, Some, None, true, false}
 use Rattle.std.specs.List.{prefix_len}
-use Rattle.va_lexer.specs.Separators.{is_in_line}
+use Rattle.va_base.specs.Spelling.{is_in_line}
 use Rattle.va_lexer.specs.Pieces.{piece, bad, front}
 use Rattle.va_lexer.proofs.Beginnings.{first-literal, rest_of, front-slash-line, front-slash-comment, front-slash-open}
 use Rattle.va_lexer.proofs.TextFronts.{prefix-first, slash-alone}

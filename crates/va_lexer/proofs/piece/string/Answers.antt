@@ -1,7 +1,7 @@
 use Rattle.std.proofs.Common.{◌≡◌, ◌<◌, ◌≤◌, ◌+◌, ℕ, suc, List, ◌∷◌, length, take, drop, refl, ap, sym, ◌∙◌, arith, Option, Some, None, true, false}
 use Rattle.std.specs.List.{prefix_len}
+use Rattle.va_base.specs.Spelling.{is_in_line}
 use Rattle.va_base.specs.declared.token.TokenKind.TheVariants.{Text}
-use Rattle.va_lexer.specs.Separators.{is_in_line}
 use Rattle.va_lexer.specs.Pieces.{piece, bad, front}
 use Rattle.va_lexer.proofs.Beginnings.{first-literal, rest_of, front-quote-some, front-quote-none}
 use Rattle.va_lexer.proofs.piece.string.Goals as goal

@@ -1,8 +1,8 @@
 use Rattle.std.proofs.Common.{◌≡◌, ◌≤◌, ◌-◌, ◌<◌, ◌+◌, ℕ, length, drop, cond, Some, None}
 use Rattle.std.specs.Prelude.{◌==◌}
 use Rattle.va_base.specs.Longest.{longest}
-use Rattle.va_base.specs.Spelling.{is_text_rest}
-use Rattle.va_lexer.specs.Pieces.{begins, shifted}
+use Rattle.va_base.specs.Spelling.{is_text_rest, begins}
+use Rattle.va_lexer.specs.Pieces.{shifted}
 use Rattle.va_lexer.proofs.piece.text_rest_len.Given as goal
 
 abbrev pub invariant-units : goal.invariant-units

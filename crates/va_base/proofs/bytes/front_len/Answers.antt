@@ -1,6 +1,6 @@
-use Rattle.std.proofs.Common.{length, sym, ◌∙◌, arith}
+use Rattle.std.proofs.Common.{◌≡◌, ◌≤◌, length, sym, ◌∙◌, arith}
 use Rattle.std.proofs.lemmas.List.Sums.{prefix_len_is}
-use Rattle.c_syntax.proofs.bytes.front_len.Goals as goal
+use Rattle.va_base.proofs.bytes.front_len.Goals as goal
 
 pub returns-then-not-passes-clause-count : goal.returns-then-not-passes-clause-count
 returns-then-not-passes-clause-count g c =
