@@ -2,6 +2,8 @@ pub mod Names
 pub mod Rows
 pub mod Kinds
 pub mod Choices
+pub mod KindSets
 pub mod Sets
+pub mod Witnesses
 pub mod Evidence
 pub mod Laws

@@ -1,5 +1,7 @@
 //! The parse tables of C files. What the numbers stand for is written in `specs/grammar/Names.antt`, and the rows as texts in
 //! `specs/grammar/Rows.antt`; the clauses of `CRows` say that these tables are those.
+//!
+//! Made by `tools/grammar_tables` from `crates/c_syntax/specs/grammar/Names.antt` and `Rows.antt`; edit those.
 
 /// How many kinds of tokens there are. As a symbol of a row, a nonterminal has this number and its own.
 pub const KINDS: u16 = 187;
@@ -9,9 +11,9 @@ pub const NONTERMINALS: usize = 72;
 
 /// The symbols of each row, in order. A row's number is its place, counted from 0.
 pub static ROWS: [&[u16]; 144] = [
-    // <File> = <osdi_header> <math_header> <stddef_header> <stdint_header> ..
+    // <File> = <osdi_header> <math_header> <stddef_header> <stdint_header> <stdlib_header> ..
     &[2, 3, 4, 5, 6, 188, 189, 256],
-    // <Help> = static void init_error ( OsdiInitInfo * res , uint32_t id ) { ..
+    // <Help> = static void init_error ( OsdiInitInfo * res , uint32_t id ) { OsdiInitError * ..
     &[
         65, 66, 67, 46, 68, 54, 69, 53, 70, 71, 47, 48, 72, 54, 73, 55, 74, 46, 69, 38, 75, 53, 46,
         69, 38, 76, 56, 36, 47, 54, 77, 46, 72, 47, 47, 52, 78, 46, 73, 47, 48, 73, 50, 69, 38, 76,
@@ -25,7 +27,7 @@ pub static ROWS: [&[u16]; 144] = [
     &[],
     // <Module> = <Structs> <Functions> <SetupModel> <SetupInstance> <Eval> <Loads> <Tables>
     &[191, 194, 206, 207, 208, 225, 239],
-    // <Structs> = typedef struct { uint32_t tag ; <Fields> } <model> ; typedef struct { ..
+    // <Structs> = typedef struct { uint32_t tag ; <Fields> } <model> ; typedef struct { uint32_t ..
     &[
         85, 86, 48, 70, 87, 52, 192, 49, 16, 52, 85, 86, 48, 70, 88, 50, 224, 51, 52, 83, 54, 89,
         50, 224, 51, 52, 83, 54, 90, 50, 224, 51, 52, 91, 92, 50, 224, 51, 52, 83, 93, 52, 192, 49,
@@ -43,7 +45,7 @@ pub static ROWS: [&[u16]; 144] = [
     &[65, 195],
     // <FunctionOrAccess> = <Type> <fn> ( <Arguments> ) { <Statements> return <Atom> ; } ..
     &[193, 15, 46, 196, 47, 48, 209, 95, 221, 52, 49, 194],
-    // <FunctionOrAccess> = void * <access> ( void * ip , void * mp , uint32_t id , ..
+    // <FunctionOrAccess> = void * <access> ( void * ip , void * mp , uint32_t id , uint32_t ..
     &[
         66, 54, 18, 46, 66, 54, 81, 53, 66, 54, 82, 53, 70, 71, 53, 70, 96, 47, 48, 203, 204, 198,
         95, 33, 52, 49,
@@ -56,7 +58,7 @@ pub static ROWS: [&[u16]; 144] = [
     &[53, 193, 13, 197],
     // <MoreArguments> = .
     &[],
-    // <AccessRows> = if ( id == <Number> <InstanceTest> ) { <FlagSetting> return & <Cell> ..
+    // <AccessRows> = if ( id == <Number> <InstanceTest> ) { <FlagSetting> return & <Cell> ; } ..
     &[
         78, 46, 71, 42, 224, 199, 47, 48, 200, 95, 63, 201, 52, 49, 198,
     ],
@@ -86,17 +88,17 @@ pub static ROWS: [&[u16]; 144] = [
     &[
         69, 38, 96, 55, 35, 52, 69, 38, 76, 55, 35, 52, 69, 38, 75, 55, 33, 52,
     ],
-    // <SetupModel> = static void <setup_model> ( void * handle , void * mp , OsdiSimParas ..
+    // <SetupModel> = static void <setup_model> ( void * handle , void * mp , OsdiSimParas * sim ..
     &[
         65, 66, 19, 46, 66, 54, 101, 53, 66, 54, 82, 53, 102, 54, 103, 53, 68, 54, 69, 47, 48, 204,
         205, 209, 49,
     ],
-    // <SetupInstance> = static void <setup_instance> ( void * handle , void * ip , void * ..
+    // <SetupInstance> = static void <setup_instance> ( void * handle , void * ip , void * mp , ..
     &[
         65, 66, 20, 46, 66, 54, 101, 53, 66, 54, 81, 53, 66, 54, 82, 53, 83, 104, 53, 70, 105, 53,
         102, 54, 103, 53, 68, 54, 69, 47, 48, 203, 204, 205, 99, 38, 93, 55, 104, 52, 209, 49,
     ],
-    // <Eval> = static uint32_t <eval> ( void * handle , void * ip , void * mp , ..
+    // <Eval> = static uint32_t <eval> ( void * handle , void * ip , void * mp , OsdiSimInfo * ..
     &[
         65, 70, 21, 46, 66, 54, 101, 53, 66, 54, 81, 53, 66, 54, 82, 53, 106, 54, 107, 47, 48, 203,
         204, 108, 83, 54, 109, 55, 107, 38, 110, 52, 209, 95, 35, 52, 49,
@@ -213,13 +215,13 @@ pub static ROWS: [&[u16]; 144] = [
     &[37],
     // <Number> = <unsigned>
     &[9],
-    // <Loads> = <ResidualResist> <ResidualReact> <JacobianResist> <JacobianReact> ..
+    // <Loads> = <ResidualResist> <ResidualReact> <JacobianResist> <JacobianReact> <JacobianTran> ..
     &[226, 227, 228, 229, 230, 231, 232],
-    // <ResidualResist> = static void <load_residual_resist> ( void * ip , void * mp , ..
+    // <ResidualResist> = static void <load_residual_resist> ( void * ip , void * mp , double * ..
     &[
         65, 66, 22, 46, 66, 54, 81, 53, 66, 54, 82, 53, 83, 54, 84, 47, 48, 203, 233, 49,
     ],
-    // <ResidualReact> = static void <load_residual_react> ( void * ip , void * mp , ..
+    // <ResidualReact> = static void <load_residual_react> ( void * ip , void * mp , double * dst ..
     &[
         65, 66, 23, 46, 66, 54, 81, 53, 66, 54, 82, 53, 83, 54, 84, 47, 48, 203, 233, 49,
     ],
@@ -227,20 +229,20 @@ pub static ROWS: [&[u16]; 144] = [
     &[
         65, 66, 24, 46, 66, 54, 81, 53, 66, 54, 82, 47, 48, 203, 233, 49,
     ],
-    // <JacobianReact> = static void <load_jacobian_react> ( void * ip , void * mp , ..
+    // <JacobianReact> = static void <load_jacobian_react> ( void * ip , void * mp , double alpha ..
     &[
         65, 66, 25, 46, 66, 54, 81, 53, 66, 54, 82, 53, 83, 115, 47, 48, 203, 233, 49,
     ],
-    // <JacobianTran> = static void <load_jacobian_tran> ( void * ip , void * mp , double ..
+    // <JacobianTran> = static void <load_jacobian_tran> ( void * ip , void * mp , double alpha ) ..
     &[
         65, 66, 26, 46, 66, 54, 81, 53, 66, 54, 82, 53, 83, 115, 47, 48, 203, 233, 49,
     ],
-    // <SpiceRhsDc> = static void <load_spice_rhs_dc> ( void * ip , void * mp , double * ..
+    // <SpiceRhsDc> = static void <load_spice_rhs_dc> ( void * ip , void * mp , double * dst , ..
     &[
         65, 66, 27, 46, 66, 54, 81, 53, 66, 54, 82, 53, 83, 54, 84, 53, 83, 54, 109, 47, 48, 203,
         233, 49,
     ],
-    // <SpiceRhsTran> = static void <load_spice_rhs_tran> ( void * ip , void * mp , double ..
+    // <SpiceRhsTran> = static void <load_spice_rhs_tran> ( void * ip , void * mp , double * dst ..
     &[
         65, 66, 28, 46, 66, 54, 81, 53, 66, 54, 82, 53, 83, 54, 84, 53, 83, 54, 109, 53, 83, 115,
         47, 48, 203, 233, 49,
@@ -273,7 +275,7 @@ pub static ROWS: [&[u16]; 144] = [
     &[54, 237, 238],
     // <MoreFactors> = .
     &[],
-    // <Tables> = OsdiNode <nodes> [ ] = { <NodeRows> } ; OsdiJacobianEntry <entries> [ ] ..
+    // <Tables> = OsdiNode <nodes> [ ] = { <NodeRows> } ; OsdiJacobianEntry <entries> [ ] = { ..
     &[
         116, 29, 50, 51, 55, 48, 240, 49, 52, 117, 30, 50, 51, 55, 48, 242, 49, 52, 118, 31, 50,
         51, 55, 48, 249, 49, 52, 119, 32, 50, 51, 55, 48, 251, 49, 52,
@@ -290,7 +292,7 @@ pub static ROWS: [&[u16]; 144] = [
     &[33, 49],
     // <EntryRows> = { <EntryRow>
     &[48, 243],
-    // <EntryRow> = .nodes = { <Pair> } , .react_ptr_off = <ReactPointer> , .flags = ..
+    // <EntryRow> = .nodes = { <Pair> } , .react_ptr_off = <ReactPointer> , .flags = <EntryParts> ..
     &[
         145, 55, 48, 244, 49, 53, 146, 55, 246, 53, 147, 55, 247, 49, 53, 242,
     ],
@@ -322,7 +324,7 @@ pub static ROWS: [&[u16]; 144] = [
     &[33, 49],
     // <ParamRows> = { <ParamRow>
     &[48, 252],
-    // <ParamRow> = .name = ( char * [ ] ) { <string> <MoreStrings> } , .num_alias = ..
+    // <ParamRow> = .name = ( char * [ ] ) { <string> <MoreStrings> } , .num_alias = <Number> , ..
     &[
         137, 55, 46, 124, 54, 50, 51, 47, 48, 7, 253, 49, 53, 150, 55, 224, 53, 151, 55, 7, 53,
         138, 55, 7, 53, 147, 55, 254, 64, 255, 53, 152, 55, 35, 49, 53, 251,
@@ -343,14 +345,14 @@ pub static ROWS: [&[u16]; 144] = [
     &[128],
     // <ParamKind> = PARA_KIND_OPVAR
     &[129],
-    // <Exports> = const uint32_t OSDI_VERSION_MAJOR = 0u ; const uint32_t ..
+    // <Exports> = const uint32_t OSDI_VERSION_MAJOR = 0u ; const uint32_t OSDI_VERSION_MINOR = ..
     &[
         108, 70, 130, 55, 35, 52, 108, 70, 131, 55, 37, 52, 108, 70, 132, 55, 224, 52, 108, 133,
         134, 50, 51, 55, 48, 257, 49, 52,
     ],
     // <Descriptors> = { <Descriptor>
     &[48, 258],
-    // <Descriptor> = .name = <string> , .num_nodes = <Number> , .num_terminals = <Number> ..
+    // <Descriptor> = .name = <string> , .num_nodes = <Number> , .num_terminals = <Number> , ..
     &[
         137, 55, 7, 53, 153, 55, 224, 53, 154, 55, 224, 53, 145, 55, 29, 53, 155, 55, 224, 53, 156,
         55, 30, 53, 157, 55, 224, 53, 158, 55, 31, 53, 159, 55, 120, 46, 17, 53, 92, 47, 53, 160,
@@ -367,296 +369,152 @@ pub static ROWS: [&[u16]; 144] = [
 
 /// For each nonterminal the kinds at which a row of it is chosen.
 pub static NEXT_KINDS: [&[u16]; NONTERMINALS] = [
-    // <File>
-    &[2],
-    // <Help>
-    &[65],
-    // <Modules>
-    &[85, 108],
-    // <Module>
-    &[85],
-    // <Structs>
-    &[85],
-    // <Fields>
-    &[83, 94, 49],
-    // <Type>
-    &[83, 94],
-    // <Functions>
-    &[65],
-    // <FunctionOrAccess>
-    &[83, 94, 66],
-    // <Arguments>
-    &[83, 94, 47],
-    // <MoreArguments>
-    &[53, 47],
-    // <AccessRows>
-    &[78, 95],
-    // <InstanceTest>
-    &[39, 47],
-    // <FlagSetting>
-    &[78, 95],
-    // <Cell>
-    &[99, 100],
-    // <FieldName>
-    &[14, 93],
-    // <Instance>
-    &[17],
-    // <Model>
-    &[16],
-    // <Reset>
-    &[69],
-    // <SetupModel>
-    &[65],
-    // <SetupInstance>
-    &[65],
-    // <Eval>
-    &[65],
-    // <Statements>
-    &[12, 67, 78, 83, 94, 99, 100, 108, 111, 49, 95],
-    // <Statement>
-    &[108, 83, 94, 12, 78, 111, 100, 99, 67],
-    // <FirstValue>
-    &[55, 52],
-    // <IfRest>
-    &[62, 8, 10, 12, 13, 33, 34, 99, 100, 109],
-    // <InstanceTarget>
-    &[14, 93, 92],
-    // <Right>
-    &[57, 62, 46, 11, 15, 8, 10, 12, 13, 33, 34, 99, 100, 109],
-    // <Conversion>
-    &[83, 94],
-    // <Callee>
-    &[11, 15],
-    // <Values>
-    &[8, 10, 12, 13, 33, 34, 99, 100, 109, 47],
-    // <MoreValues>
-    &[53, 47],
-    // <Operation>
-    &[40, 41, 42, 43, 54, 56, 57, 58, 59, 60, 61, 52],
-    // <Operator>
-    &[56, 57, 54, 58, 59, 60, 40, 61, 41, 42, 43],
-    // <Atom>
-    &[12, 13, 8, 33, 34, 10, 99, 100, 109],
-    // <Node>
-    &[99],
-    // <Integer>
-    &[33, 34, 8],
-    // <Number>
-    &[35, 36, 37, 9],
-    // <Loads>
-    &[65],
-    // <ResidualResist>
-    &[65],
-    // <ResidualReact>
-    &[65],
-    // <JacobianResist>
-    &[65],
-    // <JacobianReact>
-    &[65],
-    // <JacobianTran>
-    &[65],
-    // <SpiceRhsDc>
-    &[65],
-    // <SpiceRhsTran>
-    &[65],
-    // <LoadStatements>
-    &[54, 84, 49],
-    // <LoadTarget>
-    &[84, 54],
-    // <MatrixTarget>
-    &[89, 90],
-    // <LoadSign>
-    &[55, 44, 45],
-    // <Factor>
-    &[115, 99, 109],
-    // <MoreFactors>
-    &[54, 52],
-    // <Tables>
-    &[116],
-    // <NodeRows>
-    &[48],
-    // <NodeRow>
-    &[137, 33],
-    // <EntryRows>
-    &[48],
-    // <EntryRow>
-    &[145, 33],
-    // <Pair>
-    &[148],
-    // <SecondNode>
-    &[9, 35, 36, 37, 121],
-    // <ReactPointer>
-    &[120, 121],
-    // <EntryParts>
-    &[122, 123],
-    // <AndReact>
-    &[64, 49],
-    // <PairRows>
-    &[48],
-    // <PairRow>
-    &[148, 33],
-    // <ParamRows>
-    &[48],
-    // <ParamRow>
-    &[137, 33],
-    // <MoreStrings>
-    &[53, 49],
-    // <ParamType>
-    &[125, 126],
-    // <ParamKind>
-    &[127, 128, 129],
-    // <Exports>
-    &[108],
-    // <Descriptors>
-    &[48],
-    // <Descriptor>
-    &[137, 33],
+    &[2], // <File>
+    &[65], // <Help>
+    &[85, 108], // <Modules>
+    &[85], // <Module>
+    &[85], // <Structs>
+    &[83, 94, 49], // <Fields>
+    &[83, 94], // <Type>
+    &[65], // <Functions>
+    &[83, 94, 66], // <FunctionOrAccess>
+    &[83, 94, 47], // <Arguments>
+    &[53, 47], // <MoreArguments>
+    &[78, 95], // <AccessRows>
+    &[39, 47], // <InstanceTest>
+    &[78, 95], // <FlagSetting>
+    &[99, 100], // <Cell>
+    &[14, 93], // <FieldName>
+    &[17], // <Instance>
+    &[16], // <Model>
+    &[69], // <Reset>
+    &[65], // <SetupModel>
+    &[65], // <SetupInstance>
+    &[65], // <Eval>
+    &[12, 67, 78, 83, 94, 99, 100, 108, 111, 49, 95], // <Statements>
+    &[108, 83, 94, 12, 78, 111, 100, 99, 67], // <Statement>
+    &[55, 52], // <FirstValue>
+    &[62, 8, 10, 12, 13, 33, 34, 99, 100, 109], // <IfRest>
+    &[14, 93, 92], // <InstanceTarget>
+    &[57, 62, 46, 11, 15, 8, 10, 12, 13, 33, 34, 99, 100, 109], // <Right>
+    &[83, 94], // <Conversion>
+    &[11, 15], // <Callee>
+    &[8, 10, 12, 13, 33, 34, 99, 100, 109, 47], // <Values>
+    &[53, 47], // <MoreValues>
+    &[40, 41, 42, 43, 54, 56, 57, 58, 59, 60, 61, 52], // <Operation>
+    &[56, 57, 54, 58, 59, 60, 40, 61, 41, 42, 43], // <Operator>
+    &[12, 13, 8, 33, 34, 10, 99, 100, 109], // <Atom>
+    &[99], // <Node>
+    &[33, 34, 8], // <Integer>
+    &[35, 36, 37, 9], // <Number>
+    &[65], // <Loads>
+    &[65], // <ResidualResist>
+    &[65], // <ResidualReact>
+    &[65], // <JacobianResist>
+    &[65], // <JacobianReact>
+    &[65], // <JacobianTran>
+    &[65], // <SpiceRhsDc>
+    &[65], // <SpiceRhsTran>
+    &[54, 84, 49], // <LoadStatements>
+    &[84, 54], // <LoadTarget>
+    &[89, 90], // <MatrixTarget>
+    &[55, 44, 45], // <LoadSign>
+    &[115, 99, 109], // <Factor>
+    &[54, 52], // <MoreFactors>
+    &[116], // <Tables>
+    &[48], // <NodeRows>
+    &[137, 33], // <NodeRow>
+    &[48], // <EntryRows>
+    &[145, 33], // <EntryRow>
+    &[148], // <Pair>
+    &[9, 35, 36, 37, 121], // <SecondNode>
+    &[120, 121], // <ReactPointer>
+    &[122, 123], // <EntryParts>
+    &[64, 49], // <AndReact>
+    &[48], // <PairRows>
+    &[148, 33], // <PairRow>
+    &[48], // <ParamRows>
+    &[137, 33], // <ParamRow>
+    &[53, 49], // <MoreStrings>
+    &[125, 126], // <ParamType>
+    &[127, 128, 129], // <ParamKind>
+    &[108], // <Exports>
+    &[48], // <Descriptors>
+    &[137, 33], // <Descriptor>
 ];
 
 /// For each such kind the row.
 pub static NEXT_ROWS: [&[u16]; NONTERMINALS] = [
-    // <File>
-    &[0],
-    // <Help>
-    &[1],
-    // <Modules>
-    &[2, 3],
-    // <Module>
-    &[4],
-    // <Structs>
-    &[5],
-    // <Fields>
-    &[6, 6, 7],
-    // <Type>
-    &[8, 9],
-    // <Functions>
-    &[10],
-    // <FunctionOrAccess>
-    &[11, 11, 12],
-    // <Arguments>
-    &[13, 13, 14],
-    // <MoreArguments>
-    &[15, 16],
-    // <AccessRows>
-    &[17, 18],
-    // <InstanceTest>
-    &[19, 20],
-    // <FlagSetting>
-    &[21, 22],
-    // <Cell>
-    &[23, 24],
-    // <FieldName>
-    &[25, 26],
-    // <Instance>
-    &[27],
-    // <Model>
-    &[28],
-    // <Reset>
-    &[29],
-    // <SetupModel>
-    &[30],
-    // <SetupInstance>
-    &[31],
-    // <Eval>
-    &[32],
-    // <Statements>
-    &[33, 33, 33, 33, 33, 33, 33, 33, 33, 34, 34],
-    // <Statement>
-    &[35, 36, 36, 37, 38, 39, 40, 41, 42],
-    // <FirstValue>
-    &[43, 44],
-    // <IfRest>
-    &[45, 46, 46, 46, 46, 46, 46, 46, 46, 46],
-    // <InstanceTarget>
-    &[47, 47, 48],
-    // <Right>
-    &[49, 50, 51, 52, 52, 53, 53, 53, 53, 53, 53, 53, 53, 53],
-    // <Conversion>
-    &[54, 55],
-    // <Callee>
-    &[56, 57],
-    // <Values>
-    &[58, 58, 58, 58, 58, 58, 58, 58, 58, 59],
-    // <MoreValues>
-    &[60, 61],
-    // <Operation>
-    &[62, 62, 62, 62, 62, 62, 62, 62, 62, 62, 62, 63],
-    // <Operator>
-    &[64, 65, 66, 67, 68, 69, 70, 71, 72, 73, 74],
-    // <Atom>
-    &[75, 76, 77, 77, 77, 78, 79, 79, 80],
-    // <Node>
-    &[81],
-    // <Integer>
-    &[82, 83, 84],
-    // <Number>
-    &[85, 86, 87, 88],
-    // <Loads>
-    &[89],
-    // <ResidualResist>
-    &[90],
-    // <ResidualReact>
-    &[91],
-    // <JacobianResist>
-    &[92],
-    // <JacobianReact>
-    &[93],
-    // <JacobianTran>
-    &[94],
-    // <SpiceRhsDc>
-    &[95],
-    // <SpiceRhsTran>
-    &[96],
-    // <LoadStatements>
-    &[97, 97, 98],
-    // <LoadTarget>
-    &[99, 100],
-    // <MatrixTarget>
-    &[101, 102],
-    // <LoadSign>
-    &[103, 104, 105],
-    // <Factor>
-    &[106, 107, 108],
-    // <MoreFactors>
-    &[109, 110],
-    // <Tables>
-    &[111],
-    // <NodeRows>
-    &[112],
-    // <NodeRow>
-    &[113, 114],
-    // <EntryRows>
-    &[115],
-    // <EntryRow>
-    &[116, 117],
-    // <Pair>
-    &[118],
-    // <SecondNode>
-    &[119, 119, 119, 119, 120],
-    // <ReactPointer>
-    &[121, 122],
-    // <EntryParts>
-    &[123, 124],
-    // <AndReact>
-    &[125, 126],
-    // <PairRows>
-    &[127],
-    // <PairRow>
-    &[128, 129],
-    // <ParamRows>
-    &[130],
-    // <ParamRow>
-    &[131, 132],
-    // <MoreStrings>
-    &[133, 134],
-    // <ParamType>
-    &[135, 136],
-    // <ParamKind>
-    &[137, 138, 139],
-    // <Exports>
-    &[140],
-    // <Descriptors>
-    &[141],
-    // <Descriptor>
-    &[142, 143],
+    &[0], // <File>
+    &[1], // <Help>
+    &[2, 3], // <Modules>
+    &[4], // <Module>
+    &[5], // <Structs>
+    &[6, 6, 7], // <Fields>
+    &[8, 9], // <Type>
+    &[10], // <Functions>
+    &[11, 11, 12], // <FunctionOrAccess>
+    &[13, 13, 14], // <Arguments>
+    &[15, 16], // <MoreArguments>
+    &[17, 18], // <AccessRows>
+    &[19, 20], // <InstanceTest>
+    &[21, 22], // <FlagSetting>
+    &[23, 24], // <Cell>
+    &[25, 26], // <FieldName>
+    &[27], // <Instance>
+    &[28], // <Model>
+    &[29], // <Reset>
+    &[30], // <SetupModel>
+    &[31], // <SetupInstance>
+    &[32], // <Eval>
+    &[33, 33, 33, 33, 33, 33, 33, 33, 33, 34, 34], // <Statements>
+    &[35, 36, 36, 37, 38, 39, 40, 41, 42], // <Statement>
+    &[43, 44], // <FirstValue>
+    &[45, 46, 46, 46, 46, 46, 46, 46, 46, 46], // <IfRest>
+    &[47, 47, 48], // <InstanceTarget>
+    &[49, 50, 51, 52, 52, 53, 53, 53, 53, 53, 53, 53, 53, 53], // <Right>
+    &[54, 55], // <Conversion>
+    &[56, 57], // <Callee>
+    &[58, 58, 58, 58, 58, 58, 58, 58, 58, 59], // <Values>
+    &[60, 61], // <MoreValues>
+    &[62, 62, 62, 62, 62, 62, 62, 62, 62, 62, 62, 63], // <Operation>
+    &[64, 65, 66, 67, 68, 69, 70, 71, 72, 73, 74], // <Operator>
+    &[75, 76, 77, 77, 77, 78, 79, 79, 80], // <Atom>
+    &[81], // <Node>
+    &[82, 83, 84], // <Integer>
+    &[85, 86, 87, 88], // <Number>
+    &[89], // <Loads>
+    &[90], // <ResidualResist>
+    &[91], // <ResidualReact>
+    &[92], // <JacobianResist>
+    &[93], // <JacobianReact>
+    &[94], // <JacobianTran>
+    &[95], // <SpiceRhsDc>
+    &[96], // <SpiceRhsTran>
+    &[97, 97, 98], // <LoadStatements>
+    &[99, 100], // <LoadTarget>
+    &[101, 102], // <MatrixTarget>
+    &[103, 104, 105], // <LoadSign>
+    &[106, 107, 108], // <Factor>
+    &[109, 110], // <MoreFactors>
+    &[111], // <Tables>
+    &[112], // <NodeRows>
+    &[113, 114], // <NodeRow>
+    &[115], // <EntryRows>
+    &[116, 117], // <EntryRow>
+    &[118], // <Pair>
+    &[119, 119, 119, 119, 120], // <SecondNode>
+    &[121, 122], // <ReactPointer>
+    &[123, 124], // <EntryParts>
+    &[125, 126], // <AndReact>
+    &[127], // <PairRows>
+    &[128, 129], // <PairRow>
+    &[130], // <ParamRows>
+    &[131, 132], // <ParamRow>
+    &[133, 134], // <MoreStrings>
+    &[135, 136], // <ParamType>
+    &[137, 138, 139], // <ParamKind>
+    &[140], // <Exports>
+    &[141], // <Descriptors>
+    &[142, 143], // <Descriptor>
 ];
