@@ -9,3 +9,4 @@ pub mod Facts
 pub mod Fits
 pub mod Tables
 pub mod Places
+pub mod Counts

@@ -1,5 +1,5 @@
 -- Whether the grammar spells a C file.
-use Rattle.std.specs.Prelude.{◌≡◌, ℕ, List, None}
+use Rattle.std.specs.Prelude.{◌≡◌, ◌<◌, ◌^◌, ℕ, List, None, length}
 use Rattle.predict.specs.declared.tree.ParseNode.{ParseNode}
 use Rattle.predict.specs.Sentence.{IsSentence, IsParsed, IsFirstBad}
 use Rattle.c_tree.specs.declared.token.CToken.{CToken}
@@ -11,8 +11,9 @@ use Rattle.c_syntax.specs.grammar.Sets.{c_rules}
 abbrev pub text_kinds : List ℕ → List ℕ
 text_kinds text = kinds_of text (c_tokens_of text).tokens
 
--- a text all of whose bytes make tokens, and its parse tree
+-- a text all of whose bytes make tokens, which can be numbered in 32 bits, and its parse tree
 pub record IsSpelled (text : List ℕ) (tokens : List CToken) (nodes : List ParseNode) : Type 0 where
+  pub few : length tokens < 2 ^ 32
   pub all : c_tokens_of text ≡ record { tokens = tokens; bad = None }
   pub parsed : IsParsed c_rules (text_kinds text) nodes
 

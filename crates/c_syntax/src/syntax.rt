@@ -61,6 +61,7 @@ fn token_tree(alloc: Global, bytes: &[u8], tokens: &[CToken]) -> Result<ParseTre
 
 /// The tokens of a text that the grammar spells, and its parse tree. `BadByte` is the first byte that begins no token, and
 /// `Syntax` the first bad token where all bytes make tokens. There is no `Form`.
+#[tactic(auto, using(crate::proofs::Counts::few_tokens))]
 pub fn parse_file(alloc: Global, bytes: &[u8]) -> Result<ParsedFile, CErr>
     requires { length bytes.now < 2 ^ 32 - 1 }
     ensures spelled { IfOk result (λ s. IsSpelled bytes.now s.tokens.items s.tree) }
