@@ -115,11 +115,6 @@ pub blames_last_numbered : {T : Type 0} {L : Type 0} (view : T → L) (part : �
     → length elements ≤ i → Blames old old (numbered_parts view part i (drop i elements))
 blames_last_numbered view part old elements i h = rw (drop_of_length-le elements h) (blames_none old)
 
--- the element at a place, and those behind it
-pub next-is : {T : Type 0} (elements : List T) (i : ℕ) (element : T) → i < length elements → element ≡ get_or elements i element
-    → drop i elements ≡ element ∷ drop (i + 1) elements
-next-is elements i element h e = rw (add-one, drop-cons elements i element h) (ap (λ t. t ∷ drop (suc i) elements) (sym e))
-
 -- a number that is wanted, told in another way
 pub wants-as : {old new : Option ℕ} {n m : ℕ} (number : raw.At ℕ) → Blames old new (wants n number) → n ≡ m → Blames old new (wants m number)
 wants-as {old} {new} number a e = subst (λ k. Blames old new (wants k number)) e a

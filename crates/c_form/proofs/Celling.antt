@@ -33,9 +33,6 @@ simple-cells m s atoms e =
 pub test-cells : (m : RawModule) (a : At CAtom) → atom_missing m a ≡ item_missing m (of_test a)
 test-cells m a = sym (ap (flat_map (cell_missing m)) (append-nil (cell_of a ++ []) ∙ append-nil (cell_of a)))
 
-pub value-cells : (m : RawModule) (ty : Ty) (a : At CAtom) → atom_missing m a ++ [] ≡ flat_map (item_missing m) (of_value ty a ∷ [])
-value-cells m ty a = ap (λ l. l ++ []) (test-cells m a)
-
 pub body-cells : (m : RawModule) (b : RawBody) → flat_map (cell_missing m) (body_cells b) ≡ flat_map (λ s. item_missing m (Scoped.item s)) (items_of b)
 body-cells m b = flat-flat (cell_missing m) cells_in (items_of b)
 

@@ -5,7 +5,7 @@ use Rattle.c_raw.specs.Blocks.{ends}
 use Rattle.c_raw.specs.declared.body.RawStatement.{RawStatement}
 use Rattle.c_raw.specs.declared.body.RawStatement.TheVariants.{Simple, Leave, If, For, End}
 use Rattle.c_form.specs.OpenBlocks.{open_behind}
-use Rattle.c_form.proofs.Blaming.{next-is}
+use Rattle.c_raw.proofs.Elements.{next-is}
 
 by_statement : (n : ℕ) (s : RawStatement) (rest : List RawStatement) → ends (suc n) (s ∷ rest) ≡ ends (open_behind n s) rest
 by_statement n (Simple s) rest = rw add-one refl

@@ -10,7 +10,8 @@ use Rattle.c_tree.specs.rules.Tables.{kinds_in_order, rank, count_params}
 use Rattle.c_raw.specs.Views.{param_view}
 use Rattle.c_raw.specs.declared.table.RawParam.{RawParam}
 use Rattle.c_form.specs.Blames.{Blames}
-use Rattle.c_form.proofs.Blaming.{◌▸◌, blames_none, next-is}
+use Rattle.c_raw.proofs.Elements.{next-is}
+use Rattle.c_form.proofs.Blaming.{◌▸◌, blames_none}
 
 -- the highest rank
 abbrev pub highest_of : List ParamKind → ℕ

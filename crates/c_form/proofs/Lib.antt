@@ -3,6 +3,7 @@ pub mod Calling
 pub mod Celling
 pub mod Closing
 pub mod Flat
+pub mod ItemParts
 pub mod KindOrder
 pub mod Knowing
 pub mod Names

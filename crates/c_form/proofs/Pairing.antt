@@ -9,7 +9,8 @@ use Rattle.c_raw.specs.Views.{descriptor_view, module_view}
 use Rattle.c_raw.specs.declared.file.RawDescriptor.{RawDescriptor}
 use Rattle.c_raw.specs.declared.file.RawModule.{RawModule}
 use Rattle.c_form.specs.Blames.{Blames}
-use Rattle.c_form.proofs.Blaming.{◌▸◌, blames_none, next-is}
+use Rattle.c_raw.proofs.Elements.{next-is}
+use Rattle.c_form.proofs.Blaming.{◌▸◌, blames_none}
 
 abbrev tail_of : {T : Type 0} → List T → List T
 tail_of [] = []

@@ -56,9 +56,6 @@ test-arguments b a =
     let blame : At ℕ → List ℕ = unless_among (argument_values b.arguments) in
     sym (ap (flat_map blame) (append-nil (argument_of a)))
 
-pub value-arguments : (b : RawBody) (ty : Ty) (a : At CAtom) → argument_used b.arguments a ++ [] ≡ flat_map (arguments_of_item b) (of_value ty a ∷ [])
-value-arguments b ty a = ap (λ l. l ++ []) (test-arguments b a)
-
 -- an argument that is entered before those behind it
 pub entered : (list : List TokenArgument) (place : ℕ) (d : TokenArgument) (i : ℕ) (before : Option Ty) → 0 < place → place ≤ length list
     → before ≡ type_of_argument i (map argument_view (drop place list))

@@ -9,6 +9,7 @@ use Rattle.c_tree.specs.SameType.{same_type}
 use Rattle.c_tree.specs.Raw.{RawField, RawModule}
 use Rattle.c_tree.specs.Text.{field_word}
 use Rattle.c_tree.specs.rules.Fields.{type_among}
+use Rattle.c_form.specs.Blames.{Blames}
 use Rattle.c_form.specs.declared.cell_types.CellTypes.{CellTypes}
 
 -- the type of a name
@@ -23,6 +24,10 @@ HasFields table fields = (field : CField) → named table (field_word field) ≡
 pub record HasTypes (types : CellTypes) (m : RawModule) : Type 0 where
   pub model : HasFields types.model m.model_fields
   pub instance : HasFields types.instance m.inst_fields
+
+-- the tokens that are blamed by these types, told by the module
+abbrev pub BlamesByTypes : CellTypes → Option ℕ → Option ℕ → (RawModule → List ℕ) → Type 0
+BlamesByTypes types old new tokens = (m : RawModule) → HasTypes types m → Blames old new (tokens m)
 
 -- a type that is there and is the one that is wanted
 abbrev pub has_type : Ty → Option Ty → Bool

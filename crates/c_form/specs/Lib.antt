@@ -6,3 +6,4 @@ pub mod Scopes
 pub mod Uses
 pub mod FieldTypes
 pub mod CellUses
+pub mod Items

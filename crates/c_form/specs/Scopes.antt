@@ -8,6 +8,7 @@ use Rattle.c_tree.specs.rules.Types.{type_of_local}
 use Rattle.c_raw.specs.Blocks.{at_view, simple_view}
 use Rattle.c_raw.specs.declared.body.RawStatement.{RawStatement}
 use Rattle.c_raw.specs.declared.body.RawStatement.TheVariants.{Simple, Leave, If, For, End}
+use Rattle.c_form.specs.Blames.{Blames}
 use Rattle.c_form.specs.OpenBlocks.{innermost_first}
 use Rattle.c_form.specs.declared.scope.Frame.{Frame}
 use Rattle.c_form.specs.declared.scope.Hidden.{Hidden}
@@ -34,6 +35,10 @@ Behind types (frame ∷ frames) (known ∷ outer) =
 pub record IsScope (scope : Scope) (known : List Declared) (outer : List (List Declared)) : Type 0 where
   pub knows : IsKnown (get nat_eq scope.types) known
   pub behind : Behind (undone (get nat_eq scope.types) (innermost_first scope.frame.hidden.items)) (innermost_first scope.outer.items) outer
+
+-- the tokens that are blamed at a place of a body, told by the locals that are known there
+abbrev pub BlamesInScope : Scope → Option ℕ → Option ℕ → (List Declared → List ℕ) → Type 0
+BlamesInScope scope old new tokens = (known : List Declared) → IsKnown (get nat_eq scope.types) known → Blames old new (tokens known)
 
 -- what is known where a block ends: what is known in the block around it, and at the end of a body what was known
 abbrev pub known_behind : List Declared → List (List Declared) → List Declared

@@ -1,6 +1,6 @@
 //! Numbers that stand again.
 ghost use Rattle.std.specs.Prelude.{◌≡◌, OnOk, map};
-ghost use Rattle.c_tree.specs.rules.Bodies.{repeated as repeated_lem};
+ghost use Rattle.c_tree.specs.rules.Bodies as bodies;
 ghost use Rattle.c_raw.specs.Blocks.{at_view};
 ghost use Rattle.c_form.specs.Blames.{Blames};
 
@@ -12,7 +12,7 @@ use va_base::NoMemory;
 
 /// Blames each number that stood before.
 pub fn repeated(alloc: Global, least: &mut Option<usize>, list: &[At<u32>]) -> Result<(), NoMemory>
-    ensures { OnOk result (Blames least.old least.new (repeated_lem (map at_view list.now))) }
+    ensures { OnOk result (Blames least.old least.new (bodies.repeated (map at_view list.now))) }
 {
     let mut seen: IndexMap<u32, bool> = IndexMap::new(alloc);
     for number in list {

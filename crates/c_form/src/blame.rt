@@ -1,11 +1,11 @@
 //! The least token that is blamed.
 ghost use Rattle.std.specs.Prelude.{◌≡◌, ◌∷◌, ◌++◌, ℕ, List, [], if◌then◌else◌};
 ghost use Rattle.c_tree.specs.Form.{least_of};
-ghost use Rattle.c_form.specs.Blames.{Blames, lesser as lesser_lem};
+ghost use Rattle.c_form.specs.Blames as blames;
 
 /// Blames a token.
 pub fn blame(least: &mut Option<usize>, at: usize)
-    ensures { Blames least.old least.new (at ∷ []) }
+    ensures { blames.Blames least.old least.new (at ∷ []) }
 {
     *least = match *least {
         Some(token) => Some(token.min(at)),
@@ -15,7 +15,7 @@ pub fn blame(least: &mut Option<usize>, at: usize)
 
 /// Blames a token where something does not hold that should.
 pub fn blame_unless(least: &mut Option<usize>, holds: bool, at: usize)
-    ensures { Blames least.old least.new (if holds then [] else at ∷ []) }
+    ensures { blames.Blames least.old least.new (if holds then [] else at ∷ []) }
 {
     if !holds {
         blame(least, at);
@@ -23,7 +23,7 @@ pub fn blame_unless(least: &mut Option<usize>, holds: bool, at: usize)
 }
 
 fn lesser(first: Option<usize>, second: Option<usize>) -> Option<usize>
-    ensures { result ≡ lesser_lem first second }
+    ensures { result ≡ blames.lesser first second }
 {
     match (first, second) {
         (Some(token), Some(other)) => Some(token.min(other)),

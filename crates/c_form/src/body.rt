@@ -2,7 +2,7 @@
 ghost use Rattle.std.specs.Prelude.{◌≡◌, IfOk, map, true};
 ghost use Rattle.std.specs.List.{list_all};
 ghost use Rattle.std.specs.List.{enumerate_from};
-ghost use Rattle.c_tree.specs.rules.Bodies.{bodies_of as bodies_of_lem, function_body};
+ghost use Rattle.c_tree.specs.rules.Bodies as rule;
 ghost use Rattle.c_raw.specs.declared.file.RawFunction as spec_function;
 ghost use Rattle.c_raw.specs.Blocks.{is_body};
 ghost use Rattle.c_raw.specs.Views.{function_view, module_view, module_has_bodies};
@@ -36,7 +36,7 @@ pub fn statements<'a>(body: &Body<'a>) -> &'a [RawStatement]
 /// The functions among the bodies.
 fn function_bodies(alloc: Global, list: &[RawFunction]) -> Result<Vec<Body<'_>>, AllocError>
     requires { list_all (λ f. is_body (spec_function.RawFunction.body f)) list.now ≡ true }
-    ensures are { IfOk result (λ bodies. map body_view bodies.items ≡ map function_body (enumerate_from 0 (map function_view list.now))) }
+    ensures are { IfOk result (λ bodies. map body_view bodies.items ≡ map rule.function_body (enumerate_from 0 (map function_view list.now))) }
     ensures blocks { IfOk result (λ bodies. list_all is_one_block bodies.items ≡ true) }
 {
     let mut bodies = Vec::new(alloc);
@@ -49,7 +49,7 @@ fn function_bodies(alloc: Global, list: &[RawFunction]) -> Result<Vec<Body<'_>>,
 /// The bodies of a module: its functions, the two set-ups and the evaluation.
 pub fn bodies_of<'a>(alloc: Global, tree: &'a RawModule) -> Result<Vec<Body<'a>>, AllocError>
     requires { module_has_bodies tree.now ≡ true }
-    ensures are { IfOk result (λ bodies. map body_view bodies.items ≡ bodies_of_lem (module_view tree.now)) }
+    ensures are { IfOk result (λ bodies. map body_view bodies.items ≡ rule.bodies_of (module_view tree.now)) }
     ensures blocks { IfOk result (λ bodies. list_all is_one_block bodies.items ≡ true) }
 {
     let mut bodies = function_bodies(alloc, tree.functions.as_list())?;

@@ -1,18 +1,18 @@
-//! `if ( ! .. ) { break ; }` stands exactly once in the direct block of each `for`, and nowhere else.
-ghost use Rattle.std.specs.Prelude.{◌≡◌, ◌∷◌, [], ◌++◌, ℕ, List, Option, IfOk, OnOk, if◌then◌else◌, true, false, map};
-ghost use Rattle.std.specs.List.{flat_map, list_all};
+//! Rule 5 of form, breaks: `if ( ! .. ) { break ; }` stands exactly once in the direct block of each `for`, and nowhere else.
+ghost use Rattle.std.specs.Prelude.{◌≡◌, ◌∷◌, ℕ, List, Option, IfOk, OnOk, true, false};
 ghost use Rattle.c_tree.specs.Form.{least_of};
 ghost use Rattle.c_tree.specs.rules.Bodies as bodies;
 ghost use Rattle.c_tree.specs.rules.Breaks.{breaks_in, one_break_a_loop};
 ghost use Rattle.c_raw.specs.Blocks.{block_view, is_body};
-ghost use Rattle.c_raw.specs.Views.{file_view, has_bodies, module_has_bodies, module_view};
+ghost use Rattle.c_raw.specs.Views.{file_view, has_bodies};
 ghost use Rattle.c_raw.specs.declared.body.RawStatement.{RawStatement as SpecStatement};
 ghost use Rattle.c_form.specs.Blames.{Blames};
 ghost use Rattle.c_form.specs.Bodies.{body_view, is_one_block};
 ghost use Rattle.c_form.specs.OpenBlocks.{breaks_flat, innermost_first};
 
 use crate::blame::blame_unless;
-use crate::body::{Body, bodies_of, statements};
+use crate::body::{Body, statements};
+use crate::walk::{BodyRule, in_bodies};
 use c_raw::{RawFile, RawModule, RawStatement};
 use std::alloc::{AllocError, Global};
 use va_base::NoMemory;
@@ -94,36 +94,28 @@ fn block(alloc: Global, least: &mut Option<usize>, list: &[RawStatement]) -> Res
     Ok(())
 }
 
-fn all_bodies(alloc: Global, least: &mut Option<usize>, list: &[Body]) -> Result<(), AllocError>
-    requires { list_all is_one_block list.now ≡ true }
-    ensures { OnOk result (Blames least.old least.new
-        (flat_map (λ b. breaks_in false (bodies.RawBody.block b)) (map body_view list.now))) }
+fn one_body(alloc: Global, least: &mut Option<usize>, body: &Body) -> Result<(), NoMemory>
+    requires { is_one_block body.now ≡ true }
+    ensures { OnOk result (Blames least.old least.new (breaks_in false (bodies.RawBody.block (body_view body.now)))) }
 {
-    for body in list {
-        block(alloc, least, statements(body))?;
-    }
+    block(alloc, least, statements(body))?;
     Ok(())
 }
 
-fn one_module(alloc: Global, least: &mut Option<usize>, tree: &RawModule) -> Result<(), AllocError>
-    requires { module_has_bodies tree.now ≡ true }
-    ensures { OnOk result (Blames least.old least.new
-        (flat_map (λ b. breaks_in false (bodies.RawBody.block b)) (bodies.bodies_of (module_view tree.now)))) }
-{
-    let list = bodies_of(alloc, tree)?;
-    all_bodies(alloc, least, &list)?;
-    Ok(())
-}
+/// The rule, as it is asked of each body.
+struct Breaks;
 
-fn modules(alloc: Global, least: &mut Option<usize>, list: &[RawModule]) -> Result<(), AllocError>
-    requires { list_all module_has_bodies list.now ≡ true }
-    ensures { OnOk result (Blames least.old least.new
-        (flat_map (λ m. flat_map (λ b. breaks_in false (bodies.RawBody.block b)) (bodies.bodies_of m)) (map module_view list.now))) }
-{
-    for tree in list {
-        one_module(alloc, least, tree)?;
+impl BodyRule for Breaks {
+    ghost blamed = { λ m b. breaks_in false (bodies.RawBody.block b) };
+
+    fn blame_body(
+        alloc: Global,
+        least: &mut Option<usize>,
+        _tree: &RawModule,
+        body: &Body,
+    ) -> Result<(), NoMemory> {
+        one_body(alloc, least, body)
     }
-    Ok(())
 }
 
 /// The least token at which a `break` stands too often or outside the direct block of a `for`, or the closing brace of a `for`
@@ -133,6 +125,6 @@ pub fn breaks_fault(alloc: Global, raw: &RawFile) -> Result<Option<usize>, NoMem
     ensures { IfOk result (λ least. least ≡ least_of (one_break_a_loop (file_view raw.now))) }
 {
     let mut least = None;
-    modules(alloc, &mut least, raw.modules.as_list())?;
+    in_bodies::<Breaks>(alloc, &mut least, raw)?;
     Ok(least)
 }

@@ -1,25 +1,27 @@
-//! A function that is called stands earlier, with its number of arguments.
-ghost use Rattle.std.specs.Prelude.{◌≡◌, IfOk, OnOk, length, map, true};
-ghost use Rattle.std.specs.List.{flat_map, list_all};
+//! Rule 7 of form, calls: a function that is called stands earlier, with its number of arguments.
+ghost use Rattle.std.specs.Prelude.{◌≡◌, [], IfOk, OnOk, length, true};
+ghost use Rattle.std.specs.List.{flat_map};
 ghost use Rattle.c_tree.specs.Form.{least_of};
 ghost use Rattle.c_tree.specs.Raw as raw_tree;
 ghost use Rattle.c_tree.specs.rules.Bodies as bodies;
 ghost use Rattle.c_tree.specs.rules.Types.{calls_fit, fitting, function_before, function_called, item_calls, signature, signature_of};
 ghost use Rattle.c_raw.specs.Blocks.{right_view, simple_view};
-ghost use Rattle.c_raw.specs.Views.{file_view, has_bodies, module_has_bodies, module_view};
+ghost use Rattle.c_raw.specs.Views.{file_view, has_bodies, module_view};
 ghost use Rattle.c_form.specs.Blames.{Blames};
-ghost use Rattle.c_form.specs.Bodies.{body_view, in_statement, is_one_block};
-ghost use Rattle.c_form.specs.Parts.{calls_in_right, calls_of_item, calls_of_simple, is_there};
+ghost use Rattle.c_form.specs.Bodies.{body_view, is_one_block};
+ghost use Rattle.c_form.specs.Parts.{calls_in_right, calls_of_simple, is_there};
 
 use crate::blame::blame_unless;
-use crate::body::{Body, bodies_of, statements};
-use c_raw::{RawFile, RawModule, RawRight, RawSimple, RawStatement};
-use c_tree::CCallee;
-use std::alloc::{AllocError, Global};
+use crate::body::Body;
+use crate::items::{ItemRule, in_items};
+use crate::walk::{BodyRule, in_bodies};
+use c_raw::{At, RawFile, RawModule, RawRight, RawSimple};
+use c_tree::{CAtom, CCallee};
+use std::alloc::Global;
 use va_base::NoMemory;
 
 /// How many functions stand before a body.
-fn functions_before(tree: &RawModule, body: &Body) -> usize
+pub fn functions_before(tree: &RawModule, body: &Body) -> usize
     ensures { result ≡ function_before (bodies.RawBody.kind (body_view body.now)) (length (raw_tree.RawModule.functions (module_view tree.now))) }
 {
     match *body {
@@ -72,66 +74,71 @@ fn simple_calls(least: &mut Option<usize>, tree: &RawModule, body: &Body, statem
     }
 }
 
-fn statement_calls(
+/// A body whose calls are looked at, and its module.
+#[derive(Drop)]
+struct Calling<'a> {
+    tree: &'a RawModule,
+    body: Body<'a>,
+}
+
+impl<'a> ItemRule for Calling<'a> {
+    ghost subject = { raw_tree.RawModule × bodies.RawBody };
+
+    ghost knows = { λ calling p. (module_view calling.tree.now ≡ p.0) × (body_view calling.body ≡ p.1) };
+
+    ghost in_atom = { λ p a. [] };
+
+    ghost in_simple = { λ p. calls_of_simple p.0 p.1 };
+
+    fn blame_atom(
+        &self,
+        _alloc: Global,
+        _least: &mut Option<usize>,
+        _atom: At<CAtom>,
+    ) -> Result<(), NoMemory> {
+        Ok(())
+    }
+
+    fn blame_simple(
+        &self,
+        _alloc: Global,
+        least: &mut Option<usize>,
+        statement: &RawSimple,
+    ) -> Result<(), NoMemory> {
+        simple_calls(least, self.tree, &self.body, statement);
+        Ok(())
+    }
+}
+
+fn body_calls(
+    alloc: Global,
     least: &mut Option<usize>,
     tree: &RawModule,
     body: &Body,
-    statement: &RawStatement,
-)
-    ensures { Blames least.old least.new
-        (in_statement (calls_of_item (module_view tree.now) (body_view body.now)) statement.now) }
-{
-    if let RawStatement::Simple(inner) = statement {
-        simple_calls(least, tree, body, inner);
-    }
-}
-
-fn all_statements(least: &mut Option<usize>, tree: &RawModule, body: &Body, list: &[RawStatement])
-    ensures { Blames least.old least.new
-        (flat_map (in_statement (calls_of_item (module_view tree.now) (body_view body.now))) list.now) }
-{
-    for statement in list {
-        statement_calls(least, tree, body, statement);
-    }
-}
-
-fn body_calls(least: &mut Option<usize>, tree: &RawModule, body: &Body)
+) -> Result<(), NoMemory>
     requires { is_one_block body.now ≡ true }
-    ensures { Blames least.old least.new
-        (flat_map (item_calls (module_view tree.now) (body_view body.now)) (bodies.items_of (body_view body.now))) }
-{
-    all_statements(least, tree, body, statements(body));
-}
-
-fn all_bodies(least: &mut Option<usize>, tree: &RawModule, list: &[Body])
-    requires { list_all is_one_block list.now ≡ true }
-    ensures { Blames least.old least.new
-        (flat_map (λ b. flat_map (item_calls (module_view tree.now) b) (bodies.items_of b)) (map body_view list.now)) }
-{
-    for body in list {
-        body_calls(least, tree, body);
-    }
-}
-
-fn one_module(alloc: Global, least: &mut Option<usize>, tree: &RawModule) -> Result<(), AllocError>
-    requires { module_has_bodies tree.now ≡ true }
     ensures { OnOk result (Blames least.old least.new
-        (flat_map (λ b. flat_map (item_calls (module_view tree.now) b) (bodies.items_of b)) (bodies.bodies_of (module_view tree.now)))) }
+        (flat_map (item_calls (module_view tree.now) (body_view body.now)) (bodies.items_of (body_view body.now)))) }
 {
-    let list = bodies_of(alloc, tree)?;
-    all_bodies(least, tree, &list);
+    let calling = Calling { tree, body: *body };
+    in_items(alloc, least, &calling, body)?;
     Ok(())
 }
 
-fn modules(alloc: Global, least: &mut Option<usize>, list: &[RawModule]) -> Result<(), AllocError>
-    requires { list_all module_has_bodies list.now ≡ true }
-    ensures { OnOk result (Blames least.old least.new
-        (flat_map (λ m. flat_map (λ b. flat_map (item_calls m b) (bodies.items_of b)) (bodies.bodies_of m)) (map module_view list.now))) }
-{
-    for tree in list {
-        one_module(alloc, least, tree)?;
+/// The rule, as it is asked of each body.
+struct Calls;
+
+impl BodyRule for Calls {
+    ghost blamed = { λ m b. flat_map (item_calls m b) (bodies.items_of b) };
+
+    fn blame_body(
+        alloc: Global,
+        least: &mut Option<usize>,
+        tree: &RawModule,
+        body: &Body,
+    ) -> Result<(), NoMemory> {
+        body_calls(alloc, least, tree, body)
     }
-    Ok(())
 }
 
 /// The least token at which a call names a function that does not stand earlier, or has another number of arguments. None where
@@ -141,6 +148,6 @@ pub fn calls_fault(alloc: Global, raw: &RawFile) -> Result<Option<usize>, NoMemo
     ensures { IfOk result (λ least. least ≡ least_of (calls_fit (file_view raw.now))) }
 {
     let mut least = None;
-    modules(alloc, &mut least, raw.modules.as_list())?;
+    in_bodies::<Calls>(alloc, &mut least, raw)?;
     Ok(least)
 }

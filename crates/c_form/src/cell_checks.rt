@@ -1,11 +1,9 @@
 //! Cells that a text names are there, with the type that is needed.
 ghost use Rattle.std.specs.Prelude.{◌≡◌, OnOk};
-ghost use Rattle.c_tree.specs.SameType.{same_type as same_type_lem};
-ghost use Rattle.c_tree.specs.Raw as raw_tree;
-ghost use Rattle.c_tree.specs.rules.Fields.{cell_missing as cell_missing_lem};
+ghost use Rattle.c_tree.specs.SameType as type_equality;
+ghost use Rattle.c_tree.specs.rules.Fields as rule;
 ghost use Rattle.c_raw.specs.Blocks.{at_view};
-ghost use Rattle.c_form.specs.Blames.{Blames};
-ghost use Rattle.c_form.specs.FieldTypes.{HasTypes, has_type as has_type_lem};
+ghost use Rattle.c_form.specs.FieldTypes as field_types;
 
 use crate::blame::blame_unless;
 use crate::cell_types::{CellTypes, cell_type};
@@ -22,8 +20,8 @@ pub fn cell_missing(
     types: &CellTypes,
     cell: At<CCell>,
 ) -> Result<(), NoMemory>
-    ensures { OnOk result ((m : raw_tree.RawModule) → HasTypes types.now m
-        → Blames least.old least.new (cell_missing_lem m (at_view cell))) }
+    ensures { OnOk result (field_types.BlamesByTypes types.now least.old least.new
+        (λ m. rule.cell_missing m (at_view cell))) }
 {
     let found = cell_type(alloc, types, cell.value)?;
     blame_unless(least, found.is_some(), cell.at as usize + 2);
@@ -31,7 +29,7 @@ pub fn cell_missing(
 }
 
 fn same_type(left: Ty, right: Ty) -> bool
-    ensures { result ≡ same_type_lem left right }
+    ensures { result ≡ type_equality.same_type left right }
 {
     matches!(
         (left, right),
@@ -41,7 +39,7 @@ fn same_type(left: Ty, right: Ty) -> bool
 
 /// Whether a type is there and is the one that is wanted.
 pub fn has_type(wanted: Ty, found: Option<Ty>) -> bool
-    ensures { result ≡ has_type_lem wanted found }
+    ensures { result ≡ field_types.has_type wanted found }
 {
     match found {
         Some(ty) => same_type(ty, wanted),

@@ -4,14 +4,14 @@ ghost use Rattle.std.specs.List.{list_all};
 ghost use Rattle.c_raw.specs.Blocks.{is_body};
 ghost use Rattle.c_raw.specs.Views.{has_bodies, module_has_bodies};
 ghost use Rattle.c_raw.specs.declared.file.RawFunction as spec_function;
-ghost use Rattle.c_form.specs.OpenBlocks.{open_behind as open_behind_lem};
+ghost use Rattle.c_form.specs.OpenBlocks as open_blocks;
 
 use c_raw::{RawFile, RawFunction, RawModule, RawStatement};
 
 /// How many blocks are open behind a statement, where so many are open around the innermost one.
 fn open_behind(around: u128, statement: &RawStatement) -> u128
     requires { around < 2 ^ 100 }
-    ensures { result ≡ open_behind_lem around statement.now }
+    ensures { result ≡ open_blocks.open_behind around statement.now }
 {
     match statement {
         RawStatement::Simple(_) => around + 1,

@@ -3,7 +3,7 @@ ghost use Rattle.std.specs.Prelude.{◌≡◌, ◌++◌, IfOk, OnOk, map, true};
 ghost use Rattle.std.specs.List.{flat_map};
 ghost use Rattle.c_tree.specs.Raw as raw_tree;
 ghost use Rattle.c_tree.specs.rules.Bodies as bodies;
-ghost use Rattle.c_tree.specs.rules.Locals.{declared as declared_lem};
+ghost use Rattle.c_tree.specs.rules.Locals as rule;
 ghost use Rattle.c_raw.specs.Blocks.{at_view, simple_view};
 ghost use Rattle.c_form.specs.Blames.{Blames};
 ghost use Rattle.c_form.specs.Bodies.{body_view, in_statement, is_one_block};
@@ -18,7 +18,7 @@ use va_base::NoMemory;
 
 /// The local that a statement declares.
 fn declared(statement: &RawSimple) -> Option<At<u32>>
-    ensures { listed result ≡ declared_lem (simple_view statement.now) }
+    ensures { listed result ≡ rule.declared (simple_view statement.now) }
 {
     match statement {
         RawSimple::Constant { local, .. } => Some(*local),
@@ -39,7 +39,7 @@ fn push_some(numbers: &mut Vec<At<u32>>, number: Option<At<u32>>) -> Result<(), 
 
 fn push_declared(numbers: &mut Vec<At<u32>>, statement: &RawStatement) -> Result<(), NoMemory>
     ensures { OnOk result (map at_view numbers.new.items
-        ≡ map at_view numbers.old.items ++ in_statement (bodies.of_statement declared_lem) statement.now) }
+        ≡ map at_view numbers.old.items ++ in_statement (bodies.of_statement rule.declared) statement.now) }
 {
     if let RawStatement::Simple(inner) = statement {
         push_some(numbers, declared(inner))?;
@@ -49,7 +49,7 @@ fn push_declared(numbers: &mut Vec<At<u32>>, statement: &RawStatement) -> Result
 
 /// The locals that a body declares, in the order of the text.
 fn declared_locals(alloc: Global, list: &[RawStatement]) -> Result<Vec<At<u32>>, NoMemory>
-    ensures { IfOk result (λ numbers. map at_view numbers.items ≡ flat_map (in_statement (bodies.of_statement declared_lem)) list.now) }
+    ensures { IfOk result (λ numbers. map at_view numbers.items ≡ flat_map (in_statement (bodies.of_statement rule.declared)) list.now) }
 {
     let mut numbers = Vec::new(alloc);
     for statement in list {
@@ -62,7 +62,7 @@ fn declared_locals(alloc: Global, list: &[RawStatement]) -> Result<Vec<At<u32>>,
 pub fn locals_again(alloc: Global, least: &mut Option<usize>, body: &Body) -> Result<(), NoMemory>
     requires { is_one_block body.now ≡ true }
     ensures { OnOk result (Blames least.old least.new
-        (bodies.repeated (flat_map (bodies.of_statement declared_lem) (bodies.items_in (bodies.RawBody.block (body_view body.now)))))) }
+        (bodies.repeated (flat_map (bodies.of_statement rule.declared) (bodies.items_in (bodies.RawBody.block (body_view body.now)))))) }
 {
     let numbers = declared_locals(alloc, statements(body))?;
     repeated(alloc, least, &numbers)?;

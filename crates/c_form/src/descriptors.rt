@@ -1,6 +1,6 @@
 //! The numbers of the descriptors agree with the tables of their modules.
 ghost use Rattle.std.specs.Prelude.{◌≡◌, ◌∷◌, [], drop, map};
-ghost use Rattle.c_tree.specs.rules.Tables.{descriptor_numbers, descriptors_agree as descriptors_agree_lem, counts_agree as counts_agree_lem};
+ghost use Rattle.c_tree.specs.rules.Tables as rule;
 ghost use Rattle.c_raw.specs.Views.{descriptor_view, file_view, module_view};
 ghost use Rattle.c_form.specs.Blames.{Blames};
 
@@ -11,7 +11,7 @@ use crate::numbering::wants;
 use c_raw::{RawDescriptor, RawFile, RawModule};
 
 fn descriptor(least: &mut Option<usize>, tree: &RawModule, found: &RawDescriptor)
-    ensures { Blames least.old least.new (descriptor_numbers (module_view tree.now) (descriptor_view found.now)) }
+    ensures { Blames least.old least.new (rule.descriptor_numbers (module_view tree.now) (descriptor_view found.now)) }
 {
     let params = tree.params.as_list();
     wants(least, node_count(tree), found.num_nodes);
@@ -35,7 +35,7 @@ fn descriptor_at(
     descriptors: &[RawDescriptor],
 )
     ensures { Blames least.old least.new
-        (descriptors_agree_lem (module_view tree.now ∷ []) (map descriptor_view (drop index descriptors.now))) }
+        (rule.descriptors_agree (module_view tree.now ∷ []) (map descriptor_view (drop index descriptors.now))) }
 {
     if index < descriptors.len() {
         descriptor(least, tree, &descriptors[index]);
@@ -48,7 +48,7 @@ pub fn descriptors_agree(
     modules: &[RawModule],
     descriptors: &[RawDescriptor],
 )
-    ensures { Blames least.old least.new (descriptors_agree_lem (map module_view modules.now) (map descriptor_view descriptors.now)) }
+    ensures { Blames least.old least.new (rule.descriptors_agree (map module_view modules.now) (map descriptor_view descriptors.now)) }
 {
     for (index, tree) in modules.iter().enumerate() {
         descriptor_at(least, tree, index, descriptors);
@@ -57,7 +57,7 @@ pub fn descriptors_agree(
 
 /// There is one descriptor for each module.
 pub fn counts_agree(least: &mut Option<usize>, raw: &RawFile)
-    ensures { Blames least.old least.new (counts_agree_lem (file_view raw.now)) }
+    ensures { Blames least.old least.new (rule.counts_agree (file_view raw.now)) }
 {
     let count = raw.modules.as_list().len();
     let written = raw.num_descriptors.value as usize;

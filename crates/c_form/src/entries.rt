@@ -1,13 +1,11 @@
 //! The elements of a module's tables agree with their places and with each other.
-ghost use Rattle.std.specs.Prelude.{◌≡◌, if◌then◌else◌, map, ℕ};
+ghost use Rattle.std.specs.Prelude.{◌≡◌, map};
 ghost use Rattle.std.specs.List.{flat_map, enumerate_from};
-ghost use Rattle.c_tree.specs.Raw as raw_tree;
-ghost use Rattle.c_tree.specs.declared.body.CField.TheVariants.{Resist, React};
-ghost use Rattle.c_tree.specs.rules.Tables.{below as below_lem, wants_field, node_fields as node_fields_lem, second_below as second_below_lem, pair_numbers, no_reference as no_reference_lem, offset_agrees as offset_agrees_lem, entry_numbers, aliases_agree as aliases_agree_lem, sizes_agree as sizes_agree_lem};
+ghost use Rattle.c_tree.specs.rules.Tables as rule;
 ghost use Rattle.c_raw.specs.Blocks.{at_view};
 ghost use Rattle.c_raw.specs.Views.{access_view, entry_view, module_view, node_view, pair_view, param_view};
 ghost use Rattle.c_form.specs.Blames.{Blames};
-ghost use Rattle.c_form.specs.Parts.{access_number as access_number_lem};
+ghost use Rattle.c_form.specs.Parts as parts;
 
 use crate::blame::{blame, blame_unless};
 use crate::count::{entry_count, id_count, node_count, pair_count};
@@ -18,7 +16,7 @@ use c_raw::{At, RawAccess, RawEntry, RawModule, RawNode, RawPair, RawParam};
 
 /// The array sizes in the instance's struct.
 pub fn sizes_agree(least: &mut Option<usize>, tree: &RawModule)
-    ensures { Blames least.old least.new (sizes_agree_lem (module_view tree.now)) }
+    ensures { Blames least.old least.new (rule.sizes_agree (module_view tree.now)) }
 {
     wants(least, node_count(tree).max(1), tree.sizes.node);
     wants(least, entry_count(tree).max(1), tree.sizes.jr);
@@ -28,7 +26,7 @@ pub fn sizes_agree(least: &mut Option<usize>, tree: &RawModule)
 
 /// The fields that an element of the nodes names.
 fn node_fields(least: &mut Option<usize>, row: usize, node: &RawNode)
-    ensures { Blames least.old least.new (node_fields_lem (row, node_view node.now)) }
+    ensures { Blames least.old least.new (rule.node_fields (row, node_view node.now)) }
 {
     blame_unless(
         least,
@@ -43,7 +41,7 @@ fn node_fields(least: &mut Option<usize>, row: usize, node: &RawNode)
 }
 
 pub fn nodes_fields(least: &mut Option<usize>, list: &[RawNode])
-    ensures { Blames least.old least.new (flat_map node_fields_lem (enumerate_from 0 (map node_view list.now))) }
+    ensures { Blames least.old least.new (flat_map rule.node_fields (enumerate_from 0 (map node_view list.now))) }
 {
     for (index, node) in list.iter().enumerate() {
         node_fields(least, index, node);
@@ -52,7 +50,7 @@ pub fn nodes_fields(least: &mut Option<usize>, list: &[RawNode])
 
 /// The second node of a pair.
 fn second_below(least: &mut Option<usize>, count: usize, second: At<Option<u32>>)
-    ensures { Blames least.old least.new (second_below_lem count (at_view second)) }
+    ensures { Blames least.old least.new (rule.second_below count (at_view second)) }
 {
     if let Some(node) = second.value {
         below(least, count, node, second.at as usize);
@@ -60,7 +58,7 @@ fn second_below(least: &mut Option<usize>, count: usize, second: At<Option<u32>>
 }
 
 fn pair(least: &mut Option<usize>, tree: &RawModule, found: RawPair)
-    ensures { Blames least.old least.new (pair_numbers (module_view tree.now) (pair_view found)) }
+    ensures { Blames least.old least.new (rule.pair_numbers (module_view tree.now) (pair_view found)) }
 {
     below(
         least,
@@ -72,7 +70,7 @@ fn pair(least: &mut Option<usize>, tree: &RawModule, found: RawPair)
 }
 
 pub fn pairs(least: &mut Option<usize>, tree: &RawModule, list: &[RawPair])
-    ensures { Blames least.old least.new (flat_map (pair_numbers (module_view tree.now)) (map pair_view list.now)) }
+    ensures { Blames least.old least.new (flat_map (rule.pair_numbers (module_view tree.now)) (map pair_view list.now)) }
 {
     for found in list {
         pair(least, tree, *found);
@@ -81,7 +79,7 @@ pub fn pairs(least: &mut Option<usize>, tree: &RawModule, list: &[RawPair])
 
 /// An entry has a second node.
 fn no_reference(least: &mut Option<usize>, second: At<Option<u32>>)
-    ensures { Blames least.old least.new (no_reference_lem (at_view second)) }
+    ensures { Blames least.old least.new (rule.no_reference (at_view second)) }
 {
     if second.value.is_none() {
         blame(least, second.at as usize);
@@ -90,7 +88,7 @@ fn no_reference(least: &mut Option<usize>, second: At<Option<u32>>)
 
 /// The offset of the reactive part is there where the entry has that part, and it has the entry's number.
 fn offset_agrees(least: &mut Option<usize>, entry: usize, react: bool, offset: At<Option<u32>>)
-    ensures { Blames least.old least.new (offset_agrees_lem entry react (at_view offset)) }
+    ensures { Blames least.old least.new (rule.offset_agrees entry react (at_view offset)) }
 {
     match offset.value {
         None => blame_unless(least, !react, offset.at as usize),
@@ -102,7 +100,7 @@ fn offset_agrees(least: &mut Option<usize>, entry: usize, react: bool, offset: A
 }
 
 fn entry(least: &mut Option<usize>, tree: &RawModule, index: usize, found: RawEntry)
-    ensures { Blames least.old least.new (entry_numbers (module_view tree.now) (index, entry_view found)) }
+    ensures { Blames least.old least.new (rule.entry_numbers (module_view tree.now) (index, entry_view found)) }
 {
     pair(least, tree, found.pair);
     no_reference(least, found.pair.second);
@@ -111,7 +109,7 @@ fn entry(least: &mut Option<usize>, tree: &RawModule, index: usize, found: RawEn
 
 pub fn entries(least: &mut Option<usize>, tree: &RawModule, list: &[RawEntry])
     ensures { Blames least.old least.new
-        (flat_map (entry_numbers (module_view tree.now)) (enumerate_from 0 (map entry_view list.now))) }
+        (flat_map (rule.entry_numbers (module_view tree.now)) (enumerate_from 0 (map entry_view list.now))) }
 {
     for (index, found) in list.iter().enumerate() {
         entry(least, tree, index, *found);
@@ -120,7 +118,7 @@ pub fn entries(least: &mut Option<usize>, tree: &RawModule, list: &[RawEntry])
 
 /// How many aliases a parameter has.
 fn aliases_agree(least: &mut Option<usize>, param: &RawParam)
-    ensures { Blames least.old least.new (aliases_agree_lem (param_view param.now)) }
+    ensures { Blames least.old least.new (rule.aliases_agree (param_view param.now)) }
 {
     wants(
         least,
@@ -130,7 +128,7 @@ fn aliases_agree(least: &mut Option<usize>, param: &RawParam)
 }
 
 pub fn params(least: &mut Option<usize>, list: &[RawParam])
-    ensures { Blames least.old least.new (flat_map aliases_agree_lem (map param_view list.now)) }
+    ensures { Blames least.old least.new (flat_map rule.aliases_agree (map param_view list.now)) }
 {
     for param in list {
         aliases_agree(least, param);
@@ -139,13 +137,13 @@ pub fn params(least: &mut Option<usize>, list: &[RawParam])
 
 /// The id of an access row.
 fn access_number(least: &mut Option<usize>, tree: &RawModule, row: &RawAccess)
-    ensures { Blames least.old least.new (access_number_lem (module_view tree.now) (access_view row.now)) }
+    ensures { Blames least.old least.new (parts.access_number (module_view tree.now) (access_view row.now)) }
 {
     below(least, id_count(tree), row.id.value, row.id.at as usize);
 }
 
 pub fn access(least: &mut Option<usize>, tree: &RawModule, list: &[RawAccess])
-    ensures { Blames least.old least.new (flat_map (access_number_lem (module_view tree.now)) (map access_view list.now)) }
+    ensures { Blames least.old least.new (flat_map (parts.access_number (module_view tree.now)) (map access_view list.now)) }
 {
     for row in list {
         access_number(least, tree, row);

@@ -4,15 +4,15 @@ ghost use Rattle.std.specs.Option.{is_some};
 ghost use Rattle.std.specs.Str.{bytes_eq};
 ghost use Rattle.c_tree.specs.declared.body.CField.{CField as SpecField};
 ghost use Rattle.c_tree.specs.Text.{field_word};
-ghost use Rattle.c_tree.specs.rules.Fields.{same_field, twice as twice_lem};
+ghost use Rattle.c_tree.specs.rules.Fields as rule;
 ghost use Rattle.c_raw.specs.Views.{field_view};
 ghost use Rattle.c_form.specs.Blames.{Blames};
 ghost use Rattle.c_form.specs.FieldTypes.{named};
 
 use crate::blame::blame_unless;
-use crate::cell_types::field_name;
 use alg_laws::Ty;
 use c_raw::RawField;
+use c_raw::field_names::field_name;
 use c_tree::CField;
 use indexmap::IndexMap;
 use std::alloc::Global;
@@ -36,7 +36,7 @@ fn enter_field(
 ) -> Result<bool, NoMemory>
     ensures before { IfOk result (λ before. before ≡ is_some (named seen.old (field_word field))) }
     ensures after { OnOk result ((other : SpecField)
-        → is_some (named seen.new (field_word other)) ≡ (same_field field other || is_some (named seen.old (field_word other)))) }
+        → is_some (named seen.new (field_word other)) ≡ (rule.same_field field other || is_some (named seen.old (field_word other)))) }
 {
     let name = field_name(alloc, field)?;
     let before = enter_name(seen, name, ty)?;
@@ -45,7 +45,7 @@ fn enter_field(
 
 /// Blames each field that has the name of an earlier one of its struct.
 pub fn twice(alloc: Global, least: &mut Option<usize>, list: &[RawField]) -> Result<(), NoMemory>
-    ensures { OnOk result (Blames least.old least.new (twice_lem (map field_view list.now))) }
+    ensures { OnOk result (Blames least.old least.new (rule.twice (map field_view list.now))) }
 {
     let mut seen: IndexMap<Vec<u8>, Ty> = IndexMap::new(alloc);
     for field in list {

@@ -2,13 +2,11 @@
 ghost use Rattle.std.specs.Prelude.{◌≡◌, OnOk, map};
 ghost use Rattle.std.specs.List.{flat_map};
 ghost use Rattle.alg_laws.specs.declared.number.Ty.TheVariants.{Real};
-ghost use Rattle.c_tree.specs.Raw as raw_tree;
-ghost use Rattle.c_tree.specs.rules.Fields.{access_cells, access_flag as access_flag_lem, all_loads, instance_type as instance_type_lem, load_cells, node_cells, unlike};
+ghost use Rattle.c_tree.specs.rules.Fields as rule;
 ghost use Rattle.c_raw.specs.Blocks.{at_view};
 ghost use Rattle.c_raw.specs.Views.{access_view, flag_view, load_view, loads_view, node_view};
-ghost use Rattle.c_form.specs.Blames.{Blames};
-ghost use Rattle.c_form.specs.CellUses.{factor_missing as factor_missing_lem};
-ghost use Rattle.c_form.specs.FieldTypes.{HasTypes};
+ghost use Rattle.c_form.specs.CellUses as cell_uses;
+ghost use Rattle.c_form.specs.FieldTypes.{BlamesByTypes};
 
 use crate::blame::blame_unless;
 use crate::cell_checks::{cell_missing, has_type};
@@ -26,8 +24,8 @@ fn access_flag(
     types: &CellTypes,
     flag: Option<At<CCell>>,
 ) -> Result<(), NoMemory>
-    ensures { OnOk result ((m : raw_tree.RawModule) → HasTypes types.now m
-        → Blames least.old least.new (access_flag_lem m (flag_view flag))) }
+    ensures { OnOk result (BlamesByTypes types.now least.old least.new
+        (λ m. rule.access_flag m (flag_view flag))) }
 {
     if let Some(cell) = flag {
         let found = cell_type(alloc, types, cell.value)?;
@@ -42,8 +40,8 @@ fn access_row(
     types: &CellTypes,
     row: RawAccess,
 ) -> Result<(), NoMemory>
-    ensures { OnOk result ((m : raw_tree.RawModule) → HasTypes types.now m
-        → Blames least.old least.new (access_cells m (access_view row))) }
+    ensures { OnOk result (BlamesByTypes types.now least.old least.new
+        (λ m. rule.access_cells m (access_view row))) }
 {
     access_flag(alloc, least, types, row.flag)?;
     cell_missing(alloc, least, types, row.cell)?;
@@ -56,8 +54,8 @@ pub fn access_rows(
     types: &CellTypes,
     list: &[RawAccess],
 ) -> Result<(), NoMemory>
-    ensures { OnOk result ((m : raw_tree.RawModule) → HasTypes types.now m
-        → Blames least.old least.new (flat_map (access_cells m) (map access_view list.now))) }
+    ensures { OnOk result (BlamesByTypes types.now least.old least.new
+        (λ m. flat_map (rule.access_cells m) (map access_view list.now))) }
 {
     for row in list {
         access_row(alloc, least, types, *row)?;
@@ -72,8 +70,8 @@ fn factor(
     types: &CellTypes,
     found: At<LoadFactor>,
 ) -> Result<(), NoMemory>
-    ensures { OnOk result ((m : raw_tree.RawModule) → HasTypes types.now m
-        → Blames least.old least.new (factor_missing_lem m (at_view found))) }
+    ensures { OnOk result (BlamesByTypes types.now least.old least.new
+        (λ m. cell_uses.factor_missing m (at_view found))) }
 {
     if let LoadFactor::Cell(field) = found.value {
         let ty = instance_type(alloc, types, field)?;
@@ -88,8 +86,8 @@ fn factors(
     types: &CellTypes,
     list: &[At<LoadFactor>],
 ) -> Result<(), NoMemory>
-    ensures { OnOk result ((m : raw_tree.RawModule) → HasTypes types.now m
-        → Blames least.old least.new (flat_map (factor_missing_lem m) (map at_view list.now))) }
+    ensures { OnOk result (BlamesByTypes types.now least.old least.new
+        (λ m. flat_map (cell_uses.factor_missing m) (map at_view list.now))) }
 {
     for found in list {
         factor(alloc, least, types, *found)?;
@@ -103,8 +101,8 @@ fn load(
     types: &CellTypes,
     found: &RawLoad,
 ) -> Result<(), NoMemory>
-    ensures { OnOk result ((m : raw_tree.RawModule) → HasTypes types.now m
-        → Blames least.old least.new (load_cells m (load_view found.now))) }
+    ensures { OnOk result (BlamesByTypes types.now least.old least.new
+        (λ m. rule.load_cells m (load_view found.now))) }
 {
     factor(alloc, least, types, found.first)?;
     factors(alloc, least, types, found.more.as_list())?;
@@ -117,8 +115,8 @@ fn loads(
     types: &CellTypes,
     list: &[RawLoad],
 ) -> Result<(), NoMemory>
-    ensures { OnOk result ((m : raw_tree.RawModule) → HasTypes types.now m
-        → Blames least.old least.new (flat_map (load_cells m) (map load_view list.now))) }
+    ensures { OnOk result (BlamesByTypes types.now least.old least.new
+        (λ m. flat_map (rule.load_cells m) (map load_view list.now))) }
 {
     for found in list {
         load(alloc, least, types, found)?;
@@ -133,8 +131,8 @@ pub fn loads_cells(
     types: &CellTypes,
     all: &RawLoads,
 ) -> Result<(), NoMemory>
-    ensures { OnOk result ((m : raw_tree.RawModule) → HasTypes types.now m
-        → Blames least.old least.new (flat_map (load_cells m) (all_loads (loads_view all.now)))) }
+    ensures { OnOk result (BlamesByTypes types.now least.old least.new
+        (λ m. flat_map (rule.load_cells m) (rule.all_loads (loads_view all.now)))) }
 {
     loads(alloc, least, types, all.residual_resist.as_list())?;
     loads(alloc, least, types, all.residual_react.as_list())?;
@@ -153,8 +151,8 @@ fn node_cell(
     types: &CellTypes,
     field: At<CField>,
 ) -> Result<(), NoMemory>
-    ensures { OnOk result ((m : raw_tree.RawModule) → HasTypes types.now m
-        → Blames least.old least.new (unlike Real (instance_type_lem m field.value) field.at)) }
+    ensures { OnOk result (BlamesByTypes types.now least.old least.new
+        (λ m. rule.unlike Real (rule.instance_type m field.value) field.at)) }
 {
     let found = instance_type(alloc, types, field.value)?;
     blame_unless(least, has_type(Ty::Real, found), field.at as usize);
@@ -167,8 +165,8 @@ fn node(
     types: &CellTypes,
     found: &RawNode,
 ) -> Result<(), NoMemory>
-    ensures { OnOk result ((m : raw_tree.RawModule) → HasTypes types.now m
-        → Blames least.old least.new (node_cells m (node_view found.now))) }
+    ensures { OnOk result (BlamesByTypes types.now least.old least.new
+        (λ m. rule.node_cells m (node_view found.now))) }
 {
     node_cell(alloc, least, types, found.resist)?;
     node_cell(alloc, least, types, found.react)?;
@@ -181,8 +179,8 @@ pub fn nodes(
     types: &CellTypes,
     list: &[RawNode],
 ) -> Result<(), NoMemory>
-    ensures { OnOk result ((m : raw_tree.RawModule) → HasTypes types.now m
-        → Blames least.old least.new (flat_map (node_cells m) (map node_view list.now))) }
+    ensures { OnOk result (BlamesByTypes types.now least.old least.new
+        (λ m. flat_map (rule.node_cells m) (map node_view list.now))) }
 {
     for found in list {
         node(alloc, least, types, found)?;

@@ -1,24 +1,25 @@
-//! Each field that is named exists in its struct with the type that is needed there, and no struct has two fields of one name.
+//! Rule 2 of form, fields: each field that is named exists in its struct with the type that is needed there, and no struct has two
+//! fields of one name.
 ghost use Rattle.std.specs.Prelude.{◌≡◌, OnOk, IfOk, map, true};
 ghost use Rattle.std.specs.List.{flat_map, enumerate_from, list_all};
 ghost use Rattle.c_tree.specs.Form.{least_of};
 ghost use Rattle.c_tree.specs.Raw as raw_tree;
 ghost use Rattle.c_tree.specs.rules.Bodies as bodies;
-ghost use Rattle.c_tree.specs.rules.Fields.{body_cells, cell_missing as cell_missing_lem, fields_exist, fields_of_module};
+ghost use Rattle.c_tree.specs.rules.Fields as rule;
 ghost use Rattle.c_raw.specs.Blocks.{at_view, simple_view};
 ghost use Rattle.c_raw.specs.Views.{file_view, has_bodies, module_has_bodies, module_view};
 ghost use Rattle.c_form.specs.Blames.{Blames};
-ghost use Rattle.c_form.specs.Bodies.{body_view, in_statement, is_one_block};
-ghost use Rattle.c_form.specs.CellUses.{atom_missing, item_missing};
-ghost use Rattle.c_form.specs.FieldTypes.{HasTypes};
+ghost use Rattle.c_form.specs.Bodies.{body_view, is_one_block};
+ghost use Rattle.c_form.specs.CellUses.{atom_missing};
+ghost use Rattle.c_form.specs.FieldTypes.{BlamesByTypes, HasTypes};
 
-use crate::atoms::simple_atoms;
-use crate::body::{Body, bodies_of, statements};
+use crate::body::{Body, bodies_of};
 use crate::cell_checks::cell_missing;
 use crate::cell_types::{CellTypes, cell_types};
 use crate::field_names::twice;
 use crate::field_rows::{access_rows, loads_cells, nodes};
-use c_raw::{At, RawFile, RawModule, RawSimple, RawStatement};
+use crate::items::{ItemRule, in_items};
+use c_raw::{At, RawFile, RawModule, RawSimple};
 use c_tree::CAtom;
 use std::alloc::Global;
 use va_base::NoMemory;
@@ -29,8 +30,8 @@ fn atom(
     types: &CellTypes,
     found: At<CAtom>,
 ) -> Result<(), NoMemory>
-    ensures { OnOk result ((m : raw_tree.RawModule) → HasTypes types.now m
-        → Blames least.old least.new (atom_missing m (at_view found))) }
+    ensures { OnOk result (BlamesByTypes types.now least.old least.new
+        (λ m. atom_missing m (at_view found))) }
 {
     if let CAtom::Cell(cell) = found.value {
         cell_missing(
@@ -46,21 +47,6 @@ fn atom(
     Ok(())
 }
 
-fn atoms(
-    alloc: Global,
-    least: &mut Option<usize>,
-    types: &CellTypes,
-    list: &[At<CAtom>],
-) -> Result<(), NoMemory>
-    ensures { OnOk result ((m : raw_tree.RawModule) → HasTypes types.now m
-        → Blames least.old least.new (flat_map (atom_missing m) (map at_view list.now))) }
-{
-    for found in list {
-        atom(alloc, least, types, *found)?;
-    }
-    Ok(())
-}
-
 /// The cell that a statement sets.
 fn cell_set(
     alloc: Global,
@@ -68,8 +54,8 @@ fn cell_set(
     types: &CellTypes,
     statement: &RawSimple,
 ) -> Result<(), NoMemory>
-    ensures { OnOk result ((m : raw_tree.RawModule) → HasTypes types.now m
-        → Blames least.old least.new (flat_map (cell_missing_lem m) (bodies.set_cells (simple_view statement.now)))) }
+    ensures { OnOk result (BlamesByTypes types.now least.old least.new
+        (λ m. flat_map (rule.cell_missing m) (bodies.set_cells (simple_view statement.now)))) }
 {
     if let RawSimple::SetCell { cell, .. } = statement {
         cell_missing(alloc, least, types, *cell)?;
@@ -77,82 +63,38 @@ fn cell_set(
     Ok(())
 }
 
-fn simple(
-    alloc: Global,
-    least: &mut Option<usize>,
-    types: &CellTypes,
-    statement: &RawSimple,
-) -> Result<(), NoMemory>
-    ensures { OnOk result ((m : raw_tree.RawModule) → HasTypes types.now m
-        → Blames least.old least.new (item_missing m (bodies.of_simple (simple_view statement.now)))) }
-{
-    let list = simple_atoms(alloc, statement)?;
-    atoms(alloc, least, types, &list)?;
-    cell_set(alloc, least, types, statement)?;
-    Ok(())
+/// The types of the fields of a body's module.
+#[derive(Drop)]
+struct Cells<'a> {
+    types: &'a CellTypes,
 }
 
-fn test_atom(
-    alloc: Global,
-    least: &mut Option<usize>,
-    types: &CellTypes,
-    found: At<CAtom>,
-) -> Result<(), NoMemory>
-    ensures { OnOk result ((m : raw_tree.RawModule) → HasTypes types.now m
-        → Blames least.old least.new (item_missing m (bodies.of_test (at_view found)))) }
-{
-    atom(alloc, least, types, found)?;
-    Ok(())
-}
+impl<'a> ItemRule for Cells<'a> {
+    ghost subject = { raw_tree.RawModule };
 
-fn statement_cells(
-    alloc: Global,
-    least: &mut Option<usize>,
-    types: &CellTypes,
-    statement: &RawStatement,
-) -> Result<(), NoMemory>
-    ensures { OnOk result ((m : raw_tree.RawModule) → HasTypes types.now m
-        → Blames least.old least.new (in_statement (item_missing m) statement.now)) }
-{
-    match statement {
-        RawStatement::Simple(inner) => simple(alloc, least, types, inner)?,
-        RawStatement::Leave { test, .. } => test_atom(alloc, least, types, *test)?,
-        RawStatement::If { test } => test_atom(alloc, least, types, *test)?,
-        RawStatement::For => {}
-        RawStatement::End { .. } => {}
+    ghost knows = { λ cells m. HasTypes cells.types.now m };
+
+    ghost in_atom = { atom_missing };
+
+    ghost in_simple = { λ m s. flat_map (rule.cell_missing m) (bodies.set_cells s) };
+
+    fn blame_atom(
+        &self,
+        alloc: Global,
+        least: &mut Option<usize>,
+        found: At<CAtom>,
+    ) -> Result<(), NoMemory> {
+        atom(alloc, least, self.types, found)
     }
-    Ok(())
-}
 
-fn all_statements(
-    alloc: Global,
-    least: &mut Option<usize>,
-    types: &CellTypes,
-    list: &[RawStatement],
-) -> Result<(), NoMemory>
-    ensures { OnOk result ((m : raw_tree.RawModule) → HasTypes types.now m
-        → Blames least.old least.new (flat_map (in_statement (item_missing m)) list.now)) }
-{
-    for statement in list {
-        statement_cells(alloc, least, types, statement)?;
+    fn blame_simple(
+        &self,
+        alloc: Global,
+        least: &mut Option<usize>,
+        statement: &RawSimple,
+    ) -> Result<(), NoMemory> {
+        cell_set(alloc, least, self.types, statement)
     }
-    Ok(())
-}
-
-/// The value that a function returns.
-fn returned(
-    alloc: Global,
-    least: &mut Option<usize>,
-    types: &CellTypes,
-    body: &Body,
-) -> Result<(), NoMemory>
-    ensures { OnOk result ((m : raw_tree.RawModule) → HasTypes types.now m
-        → Blames least.old least.new (flat_map (item_missing m) (bodies.RawBody.last (body_view body.now)))) }
-{
-    if let Body::Function(_, function) = *body {
-        atom(alloc, least, types, function.value)?;
-    }
-    Ok(())
 }
 
 fn one_body(
@@ -162,11 +104,10 @@ fn one_body(
     body: &Body,
 ) -> Result<(), NoMemory>
     requires { is_one_block body.now ≡ true }
-    ensures { OnOk result ((m : raw_tree.RawModule) → HasTypes types.now m
-        → Blames least.old least.new (flat_map (cell_missing_lem m) (body_cells (body_view body.now)))) }
+    ensures { OnOk result (BlamesByTypes types.now least.old least.new
+        (λ m. flat_map (rule.cell_missing m) (rule.body_cells (body_view body.now)))) }
 {
-    all_statements(alloc, least, types, statements(body))?;
-    returned(alloc, least, types, body)?;
+    in_items(alloc, least, &Cells { types }, body)?;
     Ok(())
 }
 
@@ -177,8 +118,8 @@ fn all_bodies(
     list: &[Body],
 ) -> Result<(), NoMemory>
     requires { list_all is_one_block list.now ≡ true }
-    ensures { OnOk result ((m : raw_tree.RawModule) → HasTypes types.now m
-        → Blames least.old least.new (flat_map (λ b. flat_map (cell_missing_lem m) (body_cells b)) (map body_view list.now))) }
+    ensures { OnOk result (BlamesByTypes types.now least.old least.new
+        (λ m. flat_map (λ b. flat_map (rule.cell_missing m) (rule.body_cells b)) (map body_view list.now))) }
 {
     for body in list {
         one_body(alloc, least, types, body)?;
@@ -193,7 +134,7 @@ fn one_module(
     tree: &RawModule,
 ) -> Result<(), NoMemory>
     requires { module_has_bodies tree.now ≡ true }
-    ensures { OnOk result (Blames least.old least.new (fields_of_module index (module_view tree.now))) }
+    ensures { OnOk result (Blames least.old least.new (rule.fields_of_module index (module_view tree.now))) }
 {
     let types = cell_types(alloc, tree)?;
     twice(alloc, least, tree.model_fields.as_list())?;
@@ -209,7 +150,7 @@ fn one_module(
 fn modules(alloc: Global, least: &mut Option<usize>, list: &[RawModule]) -> Result<(), NoMemory>
     requires { list_all module_has_bodies list.now ≡ true }
     ensures { OnOk result (Blames least.old least.new
-        (flat_map (λ p. fields_of_module p.0 p.1) (enumerate_from 0 (map module_view list.now)))) }
+        (flat_map (λ p. rule.fields_of_module p.0 p.1) (enumerate_from 0 (map module_view list.now)))) }
 {
     for (index, tree) in list.iter().enumerate() {
         one_module(alloc, least, index, tree)?;
@@ -221,7 +162,7 @@ fn modules(alloc: Global, least: &mut Option<usize>, list: &[RawModule]) -> Resu
 /// which has the name of an earlier field of its struct. None where there is no such field.
 pub fn fields_fault(alloc: Global, raw: &RawFile) -> Result<Option<usize>, NoMemory>
     requires { has_bodies raw.now ≡ true }
-    ensures { IfOk result (λ least. least ≡ least_of (fields_exist (file_view raw.now))) }
+    ensures { IfOk result (λ least. least ≡ least_of (rule.fields_exist (file_view raw.now))) }
 {
     let mut least = None;
     modules(alloc, &mut least, raw.modules.as_list())?;

@@ -1,7 +1,7 @@
 //! The kinds of a module's parameters: their order, and how many there are of each.
 ghost use Rattle.std.specs.Prelude.{◌≡◌, [], map};
-ghost use Rattle.c_tree.specs.Text.{is_instance_kind as is_instance_kind_lem, is_opvar_kind as is_opvar_kind_lem, is_parameter_kind as is_parameter_kind_lem};
-ghost use Rattle.c_tree.specs.rules.Tables.{count_params, kinds_in_order as kinds_in_order_lem, rank as rank_lem};
+ghost use Rattle.c_tree.specs.Text as text;
+ghost use Rattle.c_tree.specs.rules.Tables as rule;
 ghost use Rattle.c_raw.specs.Views.{param_view};
 ghost use Rattle.c_form.specs.Blames.{Blames};
 
@@ -10,7 +10,7 @@ use c_raw::RawParam;
 use c_tree::ParamKind;
 
 fn rank(kind: ParamKind) -> usize
-    ensures { result ≡ rank_lem kind }
+    ensures { result ≡ rule.rank kind }
 {
     match kind {
         ParamKind::Inst => 0,
@@ -21,7 +21,7 @@ fn rank(kind: ParamKind) -> usize
 
 /// Parameters of the instance stand first, then those of the model, then operating-point variables.
 pub fn kinds_in_order(least: &mut Option<usize>, params: &[RawParam])
-    ensures { Blames least.old least.new (kinds_in_order_lem [] (map param_view params.now)) }
+    ensures { Blames least.old least.new (rule.kinds_in_order [] (map param_view params.now)) }
 {
     let mut highest = 0;
     for param in params {
@@ -32,26 +32,26 @@ pub fn kinds_in_order(least: &mut Option<usize>, params: &[RawParam])
 }
 
 fn is_instance_kind(kind: ParamKind) -> bool
-    ensures { result ≡ is_instance_kind_lem kind }
+    ensures { result ≡ text.is_instance_kind kind }
 {
     matches!(kind, ParamKind::Inst)
 }
 
 fn is_parameter_kind(kind: ParamKind) -> bool
-    ensures { result ≡ is_parameter_kind_lem kind }
+    ensures { result ≡ text.is_parameter_kind kind }
 {
     matches!(kind, ParamKind::Inst | ParamKind::Model)
 }
 
 fn is_opvar_kind(kind: ParamKind) -> bool
-    ensures { result ≡ is_opvar_kind_lem kind }
+    ensures { result ≡ text.is_opvar_kind kind }
 {
     matches!(kind, ParamKind::Opvar)
 }
 
 /// How many parameters the instance has.
 pub fn instance_count(params: &[RawParam]) -> usize
-    ensures { result ≡ count_params is_instance_kind_lem (map param_view params.now) }
+    ensures { result ≡ rule.count_params text.is_instance_kind (map param_view params.now) }
 {
     let mut count = 0;
     for param in params {
@@ -64,7 +64,7 @@ pub fn instance_count(params: &[RawParam]) -> usize
 
 /// How many parameters the instance and the model have.
 pub fn parameter_count(params: &[RawParam]) -> usize
-    ensures { result ≡ count_params is_parameter_kind_lem (map param_view params.now) }
+    ensures { result ≡ rule.count_params text.is_parameter_kind (map param_view params.now) }
 {
     let mut count = 0;
     for param in params {
@@ -77,7 +77,7 @@ pub fn parameter_count(params: &[RawParam]) -> usize
 
 /// How many operating-point variables there are.
 pub fn opvar_count(params: &[RawParam]) -> usize
-    ensures { result ≡ count_params is_opvar_kind_lem (map param_view params.now) }
+    ensures { result ≡ rule.count_params text.is_opvar_kind (map param_view params.now) }
 {
     let mut count = 0;
     for param in params {

@@ -1,7 +1,8 @@
-//! The rules of form of a C text, asked of its raw tree: which is the least token that breaks one.
+//! Rules of form of a C text, asked of its raw tree: which is the least token that breaks one. Six of the nine stand here:
+//! numbering, fields, locals, breaks, calls and tables.
 //!
-//! A rule is a module of this crate. It walks the flat lists of statements with a list of open blocks, so no nesting of a text
-//! needs a stack that is as deep.
+//! A rule is a module of this crate, whose function `.._fault` answers the token. It walks the flat lists of statements with a
+//! list of open blocks, so no nesting of a text needs a stack that is as deep.
 #![tactic(auto)]
 
 pub mod again;
@@ -23,9 +24,11 @@ mod field;
 mod field_names;
 mod field_rows;
 pub mod fields;
+pub mod items;
 pub mod kinds;
 pub mod locals;
 pub mod numbering;
 mod ranges;
 pub mod scope;
 pub mod tables;
+pub mod walk;

@@ -1,26 +1,26 @@
-//! A local or an argument that is used is declared before, in its block or an enclosing one, and each is declared once in its
-//! function.
-ghost use Rattle.std.specs.Prelude.{◌≡◌, ◌++◌, ℕ, List, [], IfOk, OnOk, map, nat_eq, true};
-ghost use Rattle.std.specs.List.{flat_map, list_all};
+//! Rule 3 of form, locals: a local or an argument that is used is declared before, in its block or an enclosing one, and each is
+//! declared once in its function.
+ghost use Rattle.std.specs.Prelude.{◌≡◌, [], IfOk, OnOk, map, nat_eq, true};
+ghost use Rattle.std.specs.List.{flat_map};
 ghost use Rattle.indexmap.specs.IndexMap.{get};
 ghost use Rattle.c_tree.specs.Form.{least_of};
 ghost use Rattle.c_tree.specs.Raw as raw_tree;
 ghost use Rattle.c_tree.specs.rules.Bodies as bodies;
-ghost use Rattle.c_tree.specs.rules.Bodies.{Declared};
 ghost use Rattle.c_tree.specs.rules.Locals.{locals_declared, locals_in_body, unless_among, used_locals};
 ghost use Rattle.c_raw.specs.Blocks.{at_view, simple_view};
-ghost use Rattle.c_raw.specs.Views.{file_view, has_bodies, module_has_bodies, module_view};
+ghost use Rattle.c_raw.specs.Views.{file_view, has_bodies};
 ghost use Rattle.c_form.specs.Blames.{Blames};
 ghost use Rattle.c_form.specs.Bodies.{body_view, is_one_block};
-ghost use Rattle.c_form.specs.Scopes.{IsKnown, in_scope, known_at_end, walked};
+ghost use Rattle.c_form.specs.Scopes.{BlamesInScope, IsKnown, in_scope, known_at_end, walked};
 ghost use Rattle.c_form.specs.Uses.{local_used, numbers_of, value_used};
 
 use crate::argument_uses::body_arguments;
 use crate::atoms::simple_atoms;
 use crate::blame::blame_unless;
-use crate::body::{Body, bodies_of, statements};
+use crate::body::{Body, statements};
 use crate::declarations::{arguments_again, locals_again};
 use crate::scope::{Scope, go_behind, local_type, no_locals};
+use crate::walk::{BodyRule, in_bodies};
 use c_raw::{At, RawFile, RawModule, RawSimple, RawStatement};
 use c_tree::CAtom;
 use std::alloc::Global;
@@ -28,8 +28,7 @@ use va_base::NoMemory;
 
 /// A local that is used.
 fn used(least: &mut Option<usize>, scope: &Scope, number: At<u32>)
-    ensures { (known : List Declared) → IsKnown (get nat_eq scope.now.types) known
-        → Blames least.old least.new (unless_among (numbers_of known) (at_view number)) }
+    ensures { BlamesInScope scope.now least.old least.new (λ known. unless_among (numbers_of known) (at_view number)) }
 {
     blame_unless(
         least,
@@ -39,8 +38,7 @@ fn used(least: &mut Option<usize>, scope: &Scope, number: At<u32>)
 }
 
 fn atom_used(least: &mut Option<usize>, scope: &Scope, atom: At<CAtom>)
-    ensures { (known : List Declared) → IsKnown (get nat_eq scope.now.types) known
-        → Blames least.old least.new (local_used known (at_view atom)) }
+    ensures { BlamesInScope scope.now least.old least.new (λ known. local_used known (at_view atom)) }
 {
     if let CAtom::Local(number) = atom.value {
         used(
@@ -55,8 +53,7 @@ fn atom_used(least: &mut Option<usize>, scope: &Scope, atom: At<CAtom>)
 }
 
 fn atoms_used(least: &mut Option<usize>, scope: &Scope, atoms: &[At<CAtom>])
-    ensures { (known : List Declared) → IsKnown (get nat_eq scope.now.types) known
-        → Blames least.old least.new (flat_map (local_used known) (map at_view atoms.now)) }
+    ensures { BlamesInScope scope.now least.old least.new (λ known. flat_map (local_used known) (map at_view atoms.now)) }
 {
     for atom in atoms {
         atom_used(least, scope, *atom);
@@ -65,8 +62,7 @@ fn atoms_used(least: &mut Option<usize>, scope: &Scope, atoms: &[At<CAtom>])
 
 /// The local that a statement sets again.
 fn set_again(least: &mut Option<usize>, scope: &Scope, statement: &RawSimple)
-    ensures { (known : List Declared) → IsKnown (get nat_eq scope.now.types) known
-        → Blames least.old least.new (flat_map (unless_among (numbers_of known)) (bodies.assigned (simple_view statement.now))) }
+    ensures { BlamesInScope scope.now least.old least.new (λ known. flat_map (unless_among (numbers_of known)) (bodies.assigned (simple_view statement.now))) }
 {
     if let RawSimple::Assign { local, .. } = statement {
         used(least, scope, *local);
@@ -79,8 +75,8 @@ fn simple_used(
     scope: &Scope,
     statement: &RawSimple,
 ) -> Result<(), NoMemory>
-    ensures { OnOk result ((known : List Declared) → IsKnown (get nat_eq scope.now.types) known
-        → Blames least.old least.new (used_locals (record { known = known; item = bodies.of_simple (simple_view statement.now) }))) }
+    ensures { OnOk result (BlamesInScope scope.now least.old least.new
+        (λ known. used_locals (record { known = known; item = bodies.of_simple (simple_view statement.now) }))) }
 {
     let atoms = simple_atoms(alloc, statement)?;
     atoms_used(least, scope, &atoms);
@@ -89,8 +85,7 @@ fn simple_used(
 }
 
 fn test_used(least: &mut Option<usize>, scope: &Scope, atom: At<CAtom>)
-    ensures { (known : List Declared) → IsKnown (get nat_eq scope.now.types) known
-        → Blames least.old least.new (used_locals (record { known = known; item = bodies.of_test (at_view atom) })) }
+    ensures { BlamesInScope scope.now least.old least.new (λ known. used_locals (record { known = known; item = bodies.of_test (at_view atom) })) }
 {
     atom_used(least, scope, atom);
 }
@@ -101,8 +96,8 @@ fn visit(
     scope: &Scope,
     statement: &RawStatement,
 ) -> Result<(), NoMemory>
-    ensures { OnOk result ((known : List Declared) → IsKnown (get nat_eq scope.now.types) known
-        → Blames least.old least.new (in_scope used_locals known statement.now)) }
+    ensures { OnOk result (BlamesInScope scope.now least.old least.new
+        (λ known. in_scope used_locals known statement.now)) }
 {
     match statement {
         RawStatement::Simple(inner) => simple_used(alloc, least, scope, inner)?,
@@ -129,8 +124,7 @@ fn walk(alloc: Global, least: &mut Option<usize>, list: &[RawStatement]) -> Resu
 
 /// The value that a function returns.
 fn returned_used(least: &mut Option<usize>, scope: &Scope, body: &Body)
-    ensures { (known : List Declared) → IsKnown (get nat_eq scope.now.types) known
-        → Blames least.old least.new (value_used known (bodies.RawBody.last (body_view body.now))) }
+    ensures { BlamesInScope scope.now least.old least.new (λ known. value_used known (bodies.RawBody.last (body_view body.now))) }
 {
     if let Body::Function(_, function) = *body {
         atom_used(least, scope, function.value);
@@ -158,41 +152,21 @@ fn one_body(alloc: Global, least: &mut Option<usize>, body: &Body) -> Result<(),
     Ok(())
 }
 
-fn all_bodies(
-    alloc: Global,
-    least: &mut Option<usize>,
-    tree: &RawModule,
-    list: &[Body],
-) -> Result<(), NoMemory>
-    requires { list_all is_one_block list.now ≡ true }
-    ensures { OnOk result (Blames least.old least.new (flat_map (locals_in_body (module_view tree.now)) (map body_view list.now))) }
-{
-    let _module = tree;
-    for body in list {
+/// The rule, as it is asked of each body.
+struct Locals;
+
+impl BodyRule for Locals {
+    ghost blamed = { locals_in_body };
+
+    fn blame_body(
+        alloc: Global,
+        least: &mut Option<usize>,
+        _tree: &RawModule,
+        body: &Body,
+    ) -> Result<(), NoMemory> {
         one_body(alloc, least, body)?;
+        Ok(())
     }
-    Ok(())
-}
-
-fn one_module(alloc: Global, least: &mut Option<usize>, tree: &RawModule) -> Result<(), NoMemory>
-    requires { module_has_bodies tree.now ≡ true }
-    ensures { OnOk result (Blames least.old least.new
-        (flat_map (locals_in_body (module_view tree.now)) (bodies.bodies_of (module_view tree.now)))) }
-{
-    let list = bodies_of(alloc, tree)?;
-    all_bodies(alloc, least, tree, &list)?;
-    Ok(())
-}
-
-fn modules(alloc: Global, least: &mut Option<usize>, list: &[RawModule]) -> Result<(), NoMemory>
-    requires { list_all module_has_bodies list.now ≡ true }
-    ensures { OnOk result (Blames least.old least.new
-        (flat_map (λ m. flat_map (locals_in_body m) (bodies.bodies_of m)) (map module_view list.now))) }
-{
-    for tree in list {
-        one_module(alloc, least, tree)?;
-    }
-    Ok(())
 }
 
 /// The least token at which a local or an argument is used that is not declared before, in its block or one around it, or is
@@ -202,6 +176,6 @@ pub fn locals_fault(alloc: Global, raw: &RawFile) -> Result<Option<usize>, NoMem
     ensures { IfOk result (λ least. least ≡ least_of (locals_declared (file_view raw.now))) }
 {
     let mut least = None;
-    modules(alloc, &mut least, raw.modules.as_list())?;
+    in_bodies::<Locals>(alloc, &mut least, raw)?;
     Ok(least)
 }

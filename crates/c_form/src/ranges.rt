@@ -3,48 +3,41 @@ ghost use Rattle.std.specs.Prelude.{◌≡◌, OnOk, map, true};
 ghost use Rattle.std.specs.List.{flat_map, list_all};
 ghost use Rattle.c_tree.specs.Raw as raw_tree;
 ghost use Rattle.c_tree.specs.rules.Bodies as bodies;
-ghost use Rattle.c_tree.specs.rules.Fields.{factors_of, all_loads};
-ghost use Rattle.c_tree.specs.rules.Tables.{below as below_lem, body_numbers as body_numbers_lem, target_number, factor_number, load_numbers};
+ghost use Rattle.c_tree.specs.rules.Fields.{all_loads};
+ghost use Rattle.c_tree.specs.rules.Tables as rule;
 ghost use Rattle.c_raw.specs.Blocks.{at_view, simple_view};
 ghost use Rattle.c_raw.specs.Views.{load_view, loads_view, module_has_bodies, module_view};
 ghost use Rattle.c_form.specs.Blames.{Blames};
-ghost use Rattle.c_form.specs.Bodies.{body_view, in_statement, is_one_block};
-ghost use Rattle.c_form.specs.Parts.{unknown_number, simple_numbers as simple_numbers_lem, numbers_of_item};
+ghost use Rattle.c_form.specs.Bodies.{body_view, is_one_block};
+ghost use Rattle.c_form.specs.Parts as parts;
 
-use crate::atoms::simple_atoms;
 use crate::blame::blame_unless;
-use crate::body::{Body, bodies_of, statements};
+use crate::body::{Body, bodies_of};
 use crate::count::{entry_count, id_count, node_count, pair_count};
-use c_raw::{At, RawLoad, RawLoads, RawModule, RawSimple, RawStatement};
+use crate::items::{ItemRule, in_items};
+use c_raw::{At, RawLoad, RawLoads, RawModule, RawSimple};
 use c_tree::{CAtom, LoadFactor, LoadTarget};
-use std::alloc::{AllocError, Global};
+use std::alloc::Global;
+use va_base::NoMemory;
 
 /// A number that has to be below another.
 pub fn below(least: &mut Option<usize>, count: usize, number: u32, at: usize)
-    ensures { Blames least.old least.new (below_lem count number at) }
+    ensures { Blames least.old least.new (rule.below count number at) }
 {
     blame_unless(least, (number as usize) < count, at);
 }
 
 fn unknown(least: &mut Option<usize>, tree: &RawModule, atom: At<CAtom>)
-    ensures { Blames least.old least.new (unknown_number (module_view tree.now) (at_view atom)) }
+    ensures { Blames least.old least.new (parts.unknown_number (module_view tree.now) (at_view atom)) }
 {
     if let CAtom::Unknown(node) = atom.value {
         below(least, node_count(tree), node, atom.at as usize + 6);
     }
 }
 
-fn unknowns(least: &mut Option<usize>, tree: &RawModule, atoms: &[At<CAtom>])
-    ensures { Blames least.old least.new (flat_map (unknown_number (module_view tree.now)) (map at_view atoms.now)) }
-{
-    for atom in atoms {
-        unknown(least, tree, *atom);
-    }
-}
-
 /// The number of a collapse flag that a statement sets, or the id that it reports.
 fn simple_numbers(least: &mut Option<usize>, tree: &RawModule, statement: &RawSimple)
-    ensures { Blames least.old least.new (simple_numbers_lem (module_view tree.now) (simple_view statement.now)) }
+    ensures { Blames least.old least.new (parts.simple_numbers (module_view tree.now) (simple_view statement.now)) }
 {
     match statement {
         RawSimple::SetCollapse { pair, .. } => {
@@ -55,68 +48,39 @@ fn simple_numbers(least: &mut Option<usize>, tree: &RawModule, statement: &RawSi
     }
 }
 
-fn simple(
-    alloc: Global,
-    least: &mut Option<usize>,
-    tree: &RawModule,
-    statement: &RawSimple,
-) -> Result<(), AllocError>
-    ensures { OnOk result (Blames least.old least.new
-        (numbers_of_item (module_view tree.now) (bodies.of_simple (simple_view statement.now)))) }
-{
-    let atoms = simple_atoms(alloc, statement)?;
-    unknowns(least, tree, &atoms);
-    simple_numbers(least, tree, statement);
-    Ok(())
+/// The module whose tables the numbers are for.
+#[derive(Drop)]
+struct Numbers<'a> {
+    tree: &'a RawModule,
 }
 
-fn test(least: &mut Option<usize>, tree: &RawModule, atom: At<CAtom>)
-    ensures { Blames least.old least.new (numbers_of_item (module_view tree.now) (bodies.of_test (at_view atom))) }
-{
-    unknown(least, tree, atom);
-}
+impl<'a> ItemRule for Numbers<'a> {
+    ghost subject = { raw_tree.RawModule };
 
-fn statement_numbers(
-    alloc: Global,
-    least: &mut Option<usize>,
-    tree: &RawModule,
-    statement: &RawStatement,
-) -> Result<(), AllocError>
-    ensures { OnOk result (Blames least.old least.new
-        (in_statement (numbers_of_item (module_view tree.now)) statement.now)) }
-{
-    match statement {
-        RawStatement::Simple(inner) => simple(alloc, least, tree, inner)?,
-        RawStatement::Leave { test: atom, .. } => test(least, tree, *atom),
-        RawStatement::If { test: atom } => test(least, tree, *atom),
-        RawStatement::For => {}
-        RawStatement::End { .. } => {}
+    ghost knows = { λ numbers m. module_view numbers.tree.now ≡ m };
+
+    ghost in_atom = { parts.unknown_number };
+
+    ghost in_simple = { parts.simple_numbers };
+
+    fn blame_atom(
+        &self,
+        _alloc: Global,
+        least: &mut Option<usize>,
+        atom: At<CAtom>,
+    ) -> Result<(), NoMemory> {
+        unknown(least, self.tree, atom);
+        Ok(())
     }
-    Ok(())
-}
 
-fn all_statements(
-    alloc: Global,
-    least: &mut Option<usize>,
-    tree: &RawModule,
-    list: &[RawStatement],
-) -> Result<(), AllocError>
-    ensures { OnOk result (Blames least.old least.new
-        (flat_map (in_statement (numbers_of_item (module_view tree.now))) list.now)) }
-{
-    for statement in list {
-        statement_numbers(alloc, least, tree, statement)?;
-    }
-    Ok(())
-}
-
-/// The value that a function returns.
-fn returned(least: &mut Option<usize>, tree: &RawModule, body: &Body)
-    ensures { Blames least.old least.new
-        (flat_map (numbers_of_item (module_view tree.now)) (bodies.RawBody.last (body_view body.now))) }
-{
-    if let Body::Function(_, function) = *body {
-        unknown(least, tree, function.value);
+    fn blame_simple(
+        &self,
+        _alloc: Global,
+        least: &mut Option<usize>,
+        statement: &RawSimple,
+    ) -> Result<(), NoMemory> {
+        simple_numbers(least, self.tree, statement);
+        Ok(())
     }
 }
 
@@ -126,17 +90,16 @@ pub fn body_numbers(
     least: &mut Option<usize>,
     tree: &RawModule,
     body: &Body,
-) -> Result<(), AllocError>
+) -> Result<(), NoMemory>
     requires { is_one_block body.now ≡ true }
-    ensures { OnOk result (Blames least.old least.new (body_numbers_lem (module_view tree.now) (body_view body.now))) }
+    ensures { OnOk result (Blames least.old least.new (rule.body_numbers (module_view tree.now) (body_view body.now))) }
 {
-    all_statements(alloc, least, tree, statements(body))?;
-    returned(least, tree, body);
+    in_items(alloc, least, &Numbers { tree }, body)?;
     Ok(())
 }
 
 fn target(least: &mut Option<usize>, tree: &RawModule, found: At<LoadTarget>)
-    ensures { Blames least.old least.new (target_number (module_view tree.now) (at_view found)) }
+    ensures { Blames least.old least.new (rule.target_number (module_view tree.now) (at_view found)) }
 {
     match found.value {
         LoadTarget::Node(node) => below(least, node_count(tree), node, found.at as usize + 6),
@@ -150,7 +113,7 @@ fn target(least: &mut Option<usize>, tree: &RawModule, found: At<LoadTarget>)
 }
 
 fn factor(least: &mut Option<usize>, tree: &RawModule, found: At<LoadFactor>)
-    ensures { Blames least.old least.new (factor_number (module_view tree.now) (at_view found)) }
+    ensures { Blames least.old least.new (rule.factor_number (module_view tree.now) (at_view found)) }
 {
     if let LoadFactor::Solution(node) = found.value {
         below(least, node_count(tree), node, found.at as usize + 6);
@@ -158,7 +121,7 @@ fn factor(least: &mut Option<usize>, tree: &RawModule, found: At<LoadFactor>)
 }
 
 fn factors(least: &mut Option<usize>, tree: &RawModule, list: &[At<LoadFactor>])
-    ensures { Blames least.old least.new (flat_map (factor_number (module_view tree.now)) (map at_view list.now)) }
+    ensures { Blames least.old least.new (flat_map (rule.factor_number (module_view tree.now)) (map at_view list.now)) }
 {
     for found in list {
         factor(least, tree, *found);
@@ -166,7 +129,7 @@ fn factors(least: &mut Option<usize>, tree: &RawModule, list: &[At<LoadFactor>])
 }
 
 fn load(least: &mut Option<usize>, tree: &RawModule, found: &RawLoad)
-    ensures { Blames least.old least.new (load_numbers (module_view tree.now) (load_view found.now)) }
+    ensures { Blames least.old least.new (rule.load_numbers (module_view tree.now) (load_view found.now)) }
 {
     target(least, tree, found.target);
     factor(least, tree, found.first);
@@ -174,7 +137,7 @@ fn load(least: &mut Option<usize>, tree: &RawModule, found: &RawLoad)
 }
 
 fn loads(least: &mut Option<usize>, tree: &RawModule, list: &[RawLoad])
-    ensures { Blames least.old least.new (flat_map (load_numbers (module_view tree.now)) (map load_view list.now)) }
+    ensures { Blames least.old least.new (flat_map (rule.load_numbers (module_view tree.now)) (map load_view list.now)) }
 {
     for found in list {
         load(least, tree, found);
@@ -184,7 +147,7 @@ fn loads(least: &mut Option<usize>, tree: &RawModule, list: &[RawLoad])
 /// The numbers in the load functions.
 pub fn loads_numbers(least: &mut Option<usize>, tree: &RawModule, all: &RawLoads)
     ensures { Blames least.old least.new
-        (flat_map (load_numbers (module_view tree.now)) (all_loads (loads_view all.now))) }
+        (flat_map (rule.load_numbers (module_view tree.now)) (all_loads (loads_view all.now))) }
 {
     loads(least, tree, all.residual_resist.as_list());
     loads(least, tree, all.residual_react.as_list());
@@ -200,10 +163,10 @@ fn all_bodies(
     least: &mut Option<usize>,
     tree: &RawModule,
     list: &[Body],
-) -> Result<(), AllocError>
+) -> Result<(), NoMemory>
     requires { list_all is_one_block list.now ≡ true }
     ensures { OnOk result (Blames least.old least.new
-        (flat_map (body_numbers_lem (module_view tree.now)) (map body_view list.now))) }
+        (flat_map (rule.body_numbers (module_view tree.now)) (map body_view list.now))) }
 {
     for body in list {
         body_numbers(alloc, least, tree, body)?;
@@ -216,10 +179,10 @@ pub fn bodies_numbers(
     alloc: Global,
     least: &mut Option<usize>,
     tree: &RawModule,
-) -> Result<(), AllocError>
+) -> Result<(), NoMemory>
     requires { module_has_bodies tree.now ≡ true }
     ensures { OnOk result (Blames least.old least.new
-        (flat_map (body_numbers_lem (module_view tree.now)) (bodies.bodies_of (module_view tree.now)))) }
+        (flat_map (rule.body_numbers (module_view tree.now)) (bodies.bodies_of (module_view tree.now)))) }
 {
     let list = bodies_of(alloc, tree)?;
     all_bodies(alloc, least, tree, &list)?;

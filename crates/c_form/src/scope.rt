@@ -1,5 +1,5 @@
 //! The locals that are known at a place of a body, with their types.
-ghost use Rattle.std.specs.Prelude.{◌≡◌, ◌∷◌, ◌++◌, ℕ, List, [], Option, IfOk, OnOk, nat_eq};
+ghost use Rattle.std.specs.Prelude.{◌≡◌, ◌∷◌, ◌++◌, ℕ, List, [], Option, OnOk, nat_eq};
 ghost use Rattle.indexmap.specs.IndexMap.{get};
 ghost use Rattle.c_tree.specs.rules.Bodies.{Declared, declares};
 ghost use Rattle.c_tree.specs.rules.Types.{type_of_local};

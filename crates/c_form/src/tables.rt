@@ -1,5 +1,5 @@
-//! The numbers and the tables agree: numbers of nodes, entries and ids are in range, parameters stand in the order of their kinds,
-//! and each number that the file writes is what its tables have.
+//! Rule 9 of form, tables: numbers of nodes, entries and ids are in range, parameters stand in the order of their kinds, and each
+//! number that the file writes is what its tables have.
 ghost use Rattle.std.specs.Prelude.{◌≡◌, IfOk, OnOk, map, true};
 ghost use Rattle.std.specs.List.{flat_map, enumerate_from, list_all};
 ghost use Rattle.c_tree.specs.Form.{least_of};
@@ -12,7 +12,7 @@ use crate::entries::{access, entries, nodes_fields, pairs, params, sizes_agree};
 use crate::kinds::kinds_in_order;
 use crate::ranges::{bodies_numbers, loads_numbers};
 use c_raw::{RawFile, RawModule};
-use std::alloc::{AllocError, Global};
+use std::alloc::Global;
 use va_base::NoMemory;
 
 fn one_module(
@@ -20,7 +20,7 @@ fn one_module(
     least: &mut Option<usize>,
     index: usize,
     tree: &RawModule,
-) -> Result<(), AllocError>
+) -> Result<(), NoMemory>
     requires { module_has_bodies tree.now ≡ true }
     ensures { OnOk result (Blames least.old least.new (numbers_of_module index (module_view tree.now))) }
 {
@@ -36,7 +36,7 @@ fn one_module(
     Ok(())
 }
 
-fn modules(alloc: Global, least: &mut Option<usize>, list: &[RawModule]) -> Result<(), AllocError>
+fn modules(alloc: Global, least: &mut Option<usize>, list: &[RawModule]) -> Result<(), NoMemory>
     requires { list_all module_has_bodies list.now ≡ true }
     ensures { OnOk result (Blames least.old least.new
         (flat_map (λ p. numbers_of_module p.0 p.1) (enumerate_from 0 (map module_view list.now)))) }

@@ -14,7 +14,8 @@ use Rattle.c_raw.specs.Blocks.{simple_view, first_block, later_blocks, blocks_of
 use Rattle.c_raw.specs.declared.body.RawStatement.{RawStatement}
 use Rattle.c_raw.specs.declared.body.RawStatement.TheVariants.{Simple, Leave, If, For, End}
 use Rattle.c_form.specs.Blames.{Blames}
-use Rattle.c_form.proofs.Blaming.{◌▸◌, blames_none, next-is}
+use Rattle.c_raw.proofs.Elements.{next-is}
+use Rattle.c_form.proofs.Blaming.{◌▸◌, blames_none}
 use Rattle.c_form_reach.specs.Placed.{around_behind, nothing, placed, walked}
 use Rattle.c_form_reach.specs.Settings.{words_set}
 use Rattle.c_form_reach.proofs.Least.{least_both, least_middle}

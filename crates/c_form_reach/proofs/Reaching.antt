@@ -177,7 +177,3 @@ pub body-least : (kind : BodyKind) (items : List Scoped)
 body-least kind items =
     least_each (λ s. item_out kind (Scoped.item s)) (out_of_reach kind)
     (λ s. item-least kind (Scoped.item s) ∙ ap least_of (known-apart kind s)) items
-
--- the value that a function returns
-pub value-out : (j : ℕ) (ty : Ty) (a : At CAtom) → function_atom a ++ [] ≡ flat_map (item_out (a_function j)) (of_value ty a ∷ [])
-value-out j ty a = refl

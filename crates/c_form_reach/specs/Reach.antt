@@ -3,7 +3,8 @@ use Rattle.std.specs.Prelude.{ℕ, List, [], ◌++◌, map}
 use Rattle.std.specs.List.{flat_map}
 use Rattle.c_tree.specs.declared.body.CAtom.{CAtom}
 use Rattle.c_tree.specs.Raw.{At, word_at, RawSimple}
-use Rattle.c_tree.specs.rules.Bodies.{Item, of_simple, of_test, of_value, BodyKind, a_function, setup_of_model, setup_of_instance, evaluation, atoms_of_simple, cell_of, unknown_of, set_cells, set_flags}
+use Rattle.c_tree.specs.rules.Bodies.{Item, BodyKind, a_function, setup_of_model, setup_of_instance, evaluation, cell_of, unknown_of, set_cells, set_flags}
+use Rattle.c_form.specs.Items.{in_item}
 use Rattle.c_tree.specs.rules.Cells.{of_fields, of_instance, is_set_up, is_temperature, report_tokens, words_of_cells, words_of_flags}
 
 -- where `x` stands in an atom
@@ -44,9 +45,7 @@ simple_out evaluation s = evaluation_statement s
 
 -- an item of a body: the atoms that it reads, and the statement that it is
 abbrev pub item_out : BodyKind → Item → List ℕ
-item_out kind (of_simple s) = flat_map (atom_out kind) (atoms_of_simple s) ++ simple_out kind s
-item_out kind (of_test a) = atom_out kind a
-item_out kind (of_value ty a) = atom_out kind a
+item_out kind = in_item (atom_out kind) (simple_out kind)
 
 -- the temperature where a statement sets it
 abbrev pub temperature_of : RawSimple → List ℕ

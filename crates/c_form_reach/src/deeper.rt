@@ -4,7 +4,7 @@ ghost use Rattle.c_tree.specs.rules.Cells.{set_deeper};
 ghost use Rattle.c_raw.specs.Blocks.{block_view, is_body};
 ghost use Rattle.c_form.specs.Blames.{Blames};
 ghost use Rattle.c_form_reach.specs.Placed.{nothing, placed};
-ghost use Rattle.c_form_reach.specs.Settings.{words_set as words_set_lem};
+ghost use Rattle.c_form_reach.specs.Settings as settings;
 
 use crate::depth::around_behind;
 use crate::words::words_set;
@@ -12,7 +12,7 @@ use c_raw::RawStatement;
 
 /// What a statement sets that does not stand in the top block.
 fn statement_deeper(least: &mut Option<usize>, around: u128, statement: &RawStatement)
-    ensures { Blames least.old least.new (placed nothing words_set_lem around statement.now) }
+    ensures { Blames least.old least.new (placed nothing settings.words_set around statement.now) }
 {
     if around == 0 {
         return;

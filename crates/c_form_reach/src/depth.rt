@@ -1,6 +1,6 @@
 //! How deep a statement stands in its body.
 ghost use Rattle.std.specs.Prelude.{◌≡◌, ◌<◌, ◌^◌};
-ghost use Rattle.c_form_reach.specs.Placed.{around_behind as around_behind_lem};
+ghost use Rattle.c_form_reach.specs.Placed as placing;
 
 use c_raw::RawStatement;
 
@@ -8,7 +8,7 @@ use c_raw::RawStatement;
 /// around the top block.
 pub fn around_behind(around: u128, statement: &RawStatement) -> u128
     requires { around < 2 ^ 100 }
-    ensures { result ≡ around_behind_lem around statement.now }
+    ensures { result ≡ placing.around_behind around statement.now }
 {
     match statement {
         RawStatement::Simple(_) => around,

@@ -1,11 +1,10 @@
-//! The rule of a whole text.
+//! Rule 8 of form, reach, asked of a text.
 ghost use Rattle.std.specs.Prelude.{◌≡◌, IfOk, OnOk, map, true};
-ghost use Rattle.std.specs.List.{flat_map, list_all};
+ghost use Rattle.std.specs.List.{flat_map};
 ghost use Rattle.c_tree.specs.Form.{least_of};
 ghost use Rattle.c_tree.specs.Raw as raw_tree;
-ghost use Rattle.c_tree.specs.rules.Bodies as bodies;
-ghost use Rattle.c_tree.specs.rules.Cells.{cells_in_reach, cells_of_body, loads_reached};
-ghost use Rattle.c_raw.specs.Views.{file_view, has_bodies, module_has_bodies, module_view};
+ghost use Rattle.c_tree.specs.rules.Cells as rule;
+ghost use Rattle.c_raw.specs.Views.{file_view, has_bodies, module_view};
 ghost use Rattle.c_form.specs.Blames.{Blames};
 ghost use Rattle.c_form.specs.Bodies.{body_view, is_one_block};
 
@@ -14,14 +13,15 @@ use crate::loads::module_loads;
 use crate::spoken::spoken_of;
 use crate::temperature::temperatures;
 use crate::twice::twice;
-use c_form::body::{Body, bodies_of, statements};
+use c_form::body::{Body, statements};
+use c_form::walk::{BodyRule, in_bodies};
 use c_raw::{RawFile, RawModule};
 use std::alloc::Global;
 use va_base::NoMemory;
 
 fn one_body(alloc: Global, least: &mut Option<usize>, body: &Body) -> Result<(), NoMemory>
     requires { is_one_block body.now ≡ true }
-    ensures { OnOk result ((m : raw_tree.RawModule) → Blames least.old least.new (cells_of_body m (body_view body.now))) }
+    ensures { OnOk result ((m : raw_tree.RawModule) → Blames least.old least.new (rule.cells_of_body m (body_view body.now))) }
 {
     deeper(least, statements(body));
     twice(alloc, least, statements(body))?;
@@ -30,40 +30,21 @@ fn one_body(alloc: Global, least: &mut Option<usize>, body: &Body) -> Result<(),
     Ok(())
 }
 
-fn all_bodies(alloc: Global, least: &mut Option<usize>, list: &[Body]) -> Result<(), NoMemory>
-    requires { list_all is_one_block list.now ≡ true }
-    ensures { OnOk result ((m : raw_tree.RawModule)
-        → Blames least.old least.new (flat_map (cells_of_body m) (map body_view list.now))) }
-{
-    for body in list {
+/// The rule, as it is asked of each body.
+struct Reach;
+
+impl BodyRule for Reach {
+    ghost blamed = { rule.cells_of_body };
+
+    fn blame_body(
+        alloc: Global,
+        least: &mut Option<usize>,
+        _tree: &RawModule,
+        body: &Body,
+    ) -> Result<(), NoMemory> {
         one_body(alloc, least, body)?;
+        Ok(())
     }
-    Ok(())
-}
-
-fn module_bodies(alloc: Global, least: &mut Option<usize>, tree: &RawModule) -> Result<(), NoMemory>
-    requires { module_has_bodies tree.now ≡ true }
-    ensures { OnOk result (Blames least.old least.new
-        (flat_map (cells_of_body (module_view tree.now)) (bodies.bodies_of (module_view tree.now)))) }
-{
-    let list = bodies_of(alloc, tree)?;
-    all_bodies(alloc, least, &list)?;
-    Ok(())
-}
-
-fn modules_bodies(
-    alloc: Global,
-    least: &mut Option<usize>,
-    list: &[RawModule],
-) -> Result<(), NoMemory>
-    requires { list_all module_has_bodies list.now ≡ true }
-    ensures { OnOk result (Blames least.old least.new
-        (flat_map (λ m. flat_map (cells_of_body m) (bodies.bodies_of m)) (map module_view list.now))) }
-{
-    for tree in list {
-        module_bodies(alloc, least, tree)?;
-    }
-    Ok(())
 }
 
 fn modules_loads(
@@ -71,7 +52,7 @@ fn modules_loads(
     least: &mut Option<usize>,
     list: &[RawModule],
 ) -> Result<(), NoMemory>
-    ensures { OnOk result (Blames least.old least.new (flat_map (loads_reached 0) (map module_view list.now))) }
+    ensures { OnOk result (Blames least.old least.new (flat_map (rule.loads_reached 0) (map module_view list.now))) }
 {
     for tree in list {
         module_loads(alloc, least, tree)?;
@@ -91,10 +72,10 @@ fn modules_loads(
 /// `c_form::closed::bodies_closed` tells. It fails where memory is refused.
 pub fn reach_fault(alloc: Global, raw: &RawFile) -> Result<Option<usize>, NoMemory>
     requires { has_bodies raw.now ≡ true }
-    ensures { IfOk result (λ least. least ≡ least_of (cells_in_reach (file_view raw.now))) }
+    ensures { IfOk result (λ least. least ≡ least_of (rule.cells_in_reach (file_view raw.now))) }
 {
     let mut least = None;
-    modules_bodies(alloc, &mut least, raw.modules.as_list())?;
+    in_bodies::<Reach>(alloc, &mut least, raw)?;
     modules_loads(alloc, &mut least, raw.modules.as_list())?;
     Ok(least)
 }

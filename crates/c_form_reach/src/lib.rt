@@ -1,5 +1,5 @@
-//! The rule of form on cells in reach, asked of a raw tree: where cells may be set, and what the bodies and the load functions of
-//! a C text may speak of.
+//! Rule 8 of form, reach, asked of a raw tree: where cells may be set, and what the bodies and the load functions of a C text may
+//! speak of.
 //!
 //! The bodies are walked as flat lists of statements, with a count of the blocks that are open around each, so no nesting of a
 //! text needs a stack or a list that is as deep.

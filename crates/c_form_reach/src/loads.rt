@@ -7,7 +7,7 @@ ghost use Rattle.c_tree.specs.rules.Cells.{double_or_missing, factor_reached, lo
 ghost use Rattle.c_raw.specs.Blocks.{at_view};
 ghost use Rattle.c_raw.specs.Views.{load_view, loads_view, module_view};
 ghost use Rattle.c_form.specs.Blames.{Blames};
-ghost use Rattle.c_form.specs.FieldTypes.{HasTypes};
+ghost use Rattle.c_form.specs.FieldTypes.{BlamesByTypes, HasTypes};
 
 use crate::load_arguments::{has_alpha, has_dst, has_solution};
 use alg_laws::Ty;
@@ -42,8 +42,8 @@ fn factor(
     function: LoadFunction,
     found: At<LoadFactor>,
 ) -> Result<(), NoMemory>
-    ensures { OnOk result ((m : raw_tree.RawModule) → HasTypes types.now m
-        → Blames least.old least.new (factor_reached m function (at_view found))) }
+    ensures { OnOk result (BlamesByTypes types.now least.old least.new
+        (λ m. factor_reached m function (at_view found))) }
 {
     match found.value {
         LoadFactor::Alpha => blame_unless(least, has_alpha(function), found.at as usize),
@@ -63,8 +63,8 @@ fn factors(
     function: LoadFunction,
     list: &[At<LoadFactor>],
 ) -> Result<(), NoMemory>
-    ensures { OnOk result ((m : raw_tree.RawModule) → HasTypes types.now m
-        → Blames least.old least.new (flat_map (factor_reached m function) (map at_view list.now))) }
+    ensures { OnOk result (BlamesByTypes types.now least.old least.new
+        (λ m. flat_map (factor_reached m function) (map at_view list.now))) }
 {
     for found in list {
         factor(alloc, least, types, function, *found)?;
@@ -79,8 +79,8 @@ fn load(
     function: LoadFunction,
     found: &RawLoad,
 ) -> Result<(), NoMemory>
-    ensures { OnOk result ((m : raw_tree.RawModule) → HasTypes types.now m
-        → Blames least.old least.new (load_reached m function (load_view found.now))) }
+    ensures { OnOk result (BlamesByTypes types.now least.old least.new
+        (λ m. load_reached m function (load_view found.now))) }
 {
     target(least, function, found.target);
     factor(alloc, least, types, function, found.first)?;
@@ -95,8 +95,8 @@ fn loads(
     function: LoadFunction,
     list: &[RawLoad],
 ) -> Result<(), NoMemory>
-    ensures { OnOk result ((m : raw_tree.RawModule) → HasTypes types.now m
-        → Blames least.old least.new (flat_map (load_reached m function) (map load_view list.now))) }
+    ensures { OnOk result (BlamesByTypes types.now least.old least.new
+        (λ m. flat_map (load_reached m function) (map load_view list.now))) }
 {
     for found in list {
         load(alloc, least, types, function, found)?;

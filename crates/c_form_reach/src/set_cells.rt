@@ -5,7 +5,7 @@ ghost use Rattle.c_tree.specs.declared.body.CCell.{CCell as SpecCell};
 ghost use Rattle.c_tree.specs.rules.Cells.{same_cell};
 ghost use Rattle.c_form_reach.specs.Settings.{has_name, was_set};
 
-use c_form::cell_types::field_name;
+use c_raw::field_names::field_name;
 use c_tree::{CCell, Level};
 use indexmap::IndexSet;
 use std::alloc::Global;

@@ -1,7 +1,7 @@
 //! Each cell is set at most once in the top block of a body, and so is each collapse flag.
 ghost use Rattle.std.specs.Prelude.{◌≡◌, ◌++◌, IfOk, OnOk, map, true};
 ghost use Rattle.c_tree.specs.rules.Bodies.{set_cells, set_flags};
-ghost use Rattle.c_tree.specs.rules.Cells.{cells_twice as cells_twice_lem, flags_twice as flags_twice_lem, set_twice};
+ghost use Rattle.c_tree.specs.rules.Cells as rule;
 ghost use Rattle.c_raw.specs.Blocks.{at_view, block_view, is_body};
 ghost use Rattle.c_form.specs.Blames.{Blames};
 ghost use Rattle.c_form_reach.specs.Placed.{nothing, placed, walked};
@@ -93,7 +93,7 @@ fn cells_twice(
     least: &mut Option<usize>,
     cells: &[At<CCell>],
 ) -> Result<(), NoMemory>
-    ensures { OnOk result (Blames least.old least.new (cells_twice_lem (map at_view cells.now))) }
+    ensures { OnOk result (Blames least.old least.new (rule.cells_twice (map at_view cells.now))) }
 {
     let mut seen = no_cells(alloc);
     for cell in cells {
@@ -105,7 +105,7 @@ fn cells_twice(
 
 /// Blames each collapse flag that was set before.
 fn flags_twice(alloc: Global, least: &mut Option<usize>, flags: &[At<u32>]) -> Result<(), NoMemory>
-    ensures { OnOk result (Blames least.old least.new (flags_twice_lem (map at_view flags.now))) }
+    ensures { OnOk result (Blames least.old least.new (rule.flags_twice (map at_view flags.now))) }
 {
     let mut seen: IndexSet<u32> = IndexSet::new(alloc);
     for flag in flags {
@@ -122,7 +122,7 @@ pub fn twice(
     list: &[RawStatement],
 ) -> Result<(), NoMemory>
     requires { is_body list.now ≡ true }
-    ensures { OnOk result (Blames least.old least.new (set_twice (block_view list.now))) }
+    ensures { OnOk result (Blames least.old least.new (rule.set_twice (block_view list.now))) }
 {
     let cells = top_cells(alloc, list)?;
     cells_twice(alloc, least, &cells)?;

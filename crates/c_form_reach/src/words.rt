@@ -3,7 +3,7 @@ ghost use Rattle.std.specs.Prelude.{◌≡◌};
 ghost use Rattle.c_tree.specs.rules.Bodies.{set_cells, set_flags};
 ghost use Rattle.c_raw.specs.Blocks.{simple_view};
 ghost use Rattle.c_form.specs.Blames.{Blames};
-ghost use Rattle.c_form_reach.specs.Settings.{listed, words_set as words_set_lem};
+ghost use Rattle.c_form_reach.specs.Settings as settings;
 
 use c_form::blame::blame;
 use c_raw::{At, RawSimple};
@@ -11,7 +11,7 @@ use c_tree::CCell;
 
 /// The cell that a statement sets.
 pub fn cell_set(statement: &RawSimple) -> Option<At<CCell>>
-    ensures { listed result ≡ set_cells (simple_view statement.now) }
+    ensures { settings.listed result ≡ set_cells (simple_view statement.now) }
 {
     match statement {
         RawSimple::SetCell { cell, .. } => Some(*cell),
@@ -21,7 +21,7 @@ pub fn cell_set(statement: &RawSimple) -> Option<At<CCell>>
 
 /// The collapse flag that a statement sets.
 pub fn flag_set(statement: &RawSimple) -> Option<At<u32>>
-    ensures { listed result ≡ set_flags (simple_view statement.now) }
+    ensures { settings.listed result ≡ set_flags (simple_view statement.now) }
 {
     match statement {
         RawSimple::SetCollapse { pair, .. } => Some(*pair),
@@ -31,7 +31,7 @@ pub fn flag_set(statement: &RawSimple) -> Option<At<u32>>
 
 /// Blames the word of the cell, or of the flag, that a statement sets.
 pub fn words_set(least: &mut Option<usize>, statement: &RawSimple)
-    ensures { Blames least.old least.new (words_set_lem (simple_view statement.now)) }
+    ensures { Blames least.old least.new (settings.words_set (simple_view statement.now)) }
 {
     match statement {
         RawSimple::SetCell { cell, .. } => blame(least, cell.at as usize + 2),

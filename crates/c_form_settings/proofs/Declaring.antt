@@ -7,7 +7,7 @@ use Rattle.c_tree.specs.Form.{least_of}
 use Rattle.c_raw.specs.declared.body.RawStatement.{RawStatement}
 use Rattle.c_form.specs.Blames.{Blames, lesser}
 use Rattle.c_form.specs.OpenBlocks.{innermost_first}
-use Rattle.c_form.proofs.Blaming.{next-is}
+use Rattle.c_raw.proofs.Elements.{next-is}
 use Rattle.c_form_settings.specs.declared.duty.Duty.{Duty}
 use Rattle.c_form_settings.specs.declared.pass.Frame.{Frame}
 use Rattle.c_form_settings.specs.declared.pass.Pass.{Pass}

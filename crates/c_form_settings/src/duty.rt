@@ -1,6 +1,6 @@
 //! What is due of a local in an open block.
 ghost use Rattle.std.specs.Prelude.{◌≡◌};
-ghost use Rattle.c_form_settings.specs.Duties.{behind_break as behind_break_lem, behind_if as behind_if_lem, behind_loop as behind_loop_lem, behind_setting as behind_setting_lem, in_arm as in_arm_lem, in_loop as in_loop_lem, is_unread as is_unread_lem, is_unset as is_unset_lem, lacks_setting as lacks_setting_lem, wants_setting as wants_setting_lem};
+ghost use Rattle.c_form_settings.specs.Duties as duties;
 
 /// What is due of a local in an open block, from a place in it on.
 #[derive(Clone, Copy, Drop)]
@@ -23,35 +23,35 @@ pub enum Duty {
 
 /// All that is due is that it isn't set.
 pub fn is_unset(duty: Duty) -> bool
-    ensures { result ≡ is_unset_lem duty }
+    ensures { result ≡ duties.is_unset duty }
 {
     matches!(duty, Duty::Unset)
 }
 
 /// It is not to be read.
 pub fn is_unread(duty: Duty) -> bool
-    ensures { result ≡ is_unread_lem duty }
+    ensures { result ≡ duties.is_unread duty }
 {
     matches!(duty, Duty::Untouched | Duty::Arm | Duty::Join)
 }
 
 /// It is to be set here.
 pub fn wants_setting(duty: Duty) -> bool
-    ensures { result ≡ wants_setting_lem duty }
+    ensures { result ≡ duties.wants_setting duty }
 {
     matches!(duty, Duty::Arm | Duty::Behind)
 }
 
 /// A setting is missing where the block ends.
 pub fn lacks_setting(duty: Duty) -> bool
-    ensures { result ≡ lacks_setting_lem duty }
+    ensures { result ≡ duties.lacks_setting duty }
 {
     !matches!(duty, Duty::Unset | Duty::Untouched)
 }
 
 /// What is due behind a setting.
 pub fn behind_setting(duty: Duty) -> Duty
-    ensures { result ≡ behind_setting_lem duty }
+    ensures { result ≡ duties.behind_setting duty }
 {
     match duty {
         Duty::Arm => Duty::Untouched,
@@ -62,7 +62,7 @@ pub fn behind_setting(duty: Duty) -> Duty
 
 /// What is due behind a `break`.
 pub fn behind_break(duty: Duty) -> Duty
-    ensures { result ≡ behind_break_lem duty }
+    ensures { result ≡ duties.behind_break duty }
 {
     match duty {
         Duty::Turn => Duty::Behind,
@@ -72,7 +72,7 @@ pub fn behind_break(duty: Duty) -> Duty
 
 /// What is due in each arm of an `if`.
 pub fn in_arm(duty: Duty) -> Duty
-    ensures { result ≡ in_arm_lem duty }
+    ensures { result ≡ duties.in_arm duty }
 {
     match duty {
         Duty::Join => Duty::Arm,
@@ -83,7 +83,7 @@ pub fn in_arm(duty: Duty) -> Duty
 
 /// What is due behind an `if`.
 pub fn behind_if(duty: Duty) -> Duty
-    ensures { result ≡ behind_if_lem duty }
+    ensures { result ≡ duties.behind_if duty }
 {
     match duty {
         Duty::Join => Duty::Unset,
@@ -93,7 +93,7 @@ pub fn behind_if(duty: Duty) -> Duty
 
 /// What is due in the block of a `for`.
 pub fn in_loop(duty: Duty) -> Duty
-    ensures { result ≡ in_loop_lem duty }
+    ensures { result ≡ duties.in_loop duty }
 {
     match duty {
         Duty::Head => Duty::Turn,
@@ -104,7 +104,7 @@ pub fn in_loop(duty: Duty) -> Duty
 
 /// What is due behind a `for`.
 pub fn behind_loop(duty: Duty) -> Duty
-    ensures { result ≡ behind_loop_lem duty }
+    ensures { result ≡ duties.behind_loop duty }
 {
     match duty {
         Duty::Head => Duty::Unset,

@@ -8,7 +8,7 @@ ghost use Rattle.c_form.specs.Blames.{Blames};
 ghost use Rattle.c_form.specs.OpenBlocks.{innermost_first, open_behind};
 ghost use Rattle.c_form_settings.specs.declared.duty.Duty.{Duty as SpecDuty};
 ghost use Rattle.c_form_settings.specs.declared.duty.Duty.TheVariants as due;
-ghost use Rattle.c_form_settings.specs.Duties.{behind_if as behind_if_lem, behind_loop as behind_loop_lem, behind_sets, behind_simple, in_arm as in_arm_lem, in_loop as in_loop_lem, reads_under, simple_under, wants_setting as wants_setting_lem};
+ghost use Rattle.c_form_settings.specs.Duties as duty_specs;
 ghost use Rattle.c_form_settings.specs.Starts.{Follows, start_flat};
 ghost use Rattle.c_form_settings.specs.States.{size};
 ghost use Rattle.c_form_settings.specs.Walks.{declaration_flat, due_flat};
@@ -76,7 +76,7 @@ fn simple_read(least: &mut Option<usize>, number: u32, statement: &RawSimple)
 
 /// The reads in a statement without blocks, where none is allowed.
 fn simple_reads(least: &mut Option<usize>, duty: Duty, number: u32, statement: &RawSimple)
-    ensures { Blames least.old least.new (reads_under number duty (atoms_of_simple (simple_view statement.now))) }
+    ensures { Blames least.old least.new (duty_specs.reads_under number duty (atoms_of_simple (simple_view statement.now))) }
 {
     if is_unread(duty) {
         simple_read(least, number, statement);
@@ -85,7 +85,7 @@ fn simple_reads(least: &mut Option<usize>, duty: Duty, number: u32, statement: &
 
 /// The read in a test, where none is allowed.
 fn test_reads(least: &mut Option<usize>, duty: Duty, number: u32, test: At<CAtom>)
-    ensures { Blames least.old least.new (reads_under number duty (at_view test ∷ [])) }
+    ensures { Blames least.old least.new (duty_specs.reads_under number duty (at_view test ∷ [])) }
 {
     if is_unread(duty) {
         atom_read(least, number, test);
@@ -94,8 +94,8 @@ fn test_reads(least: &mut Option<usize>, duty: Duty, number: u32, test: At<CAtom
 
 /// A setting of a local, and what is due of the local of this number behind it.
 fn set_local(least: &mut Option<usize>, duty: Duty, number: u32, local: At<u32>) -> Duty
-    ensures blames { Blames least.old least.new (first_counts (wants_setting_lem duty) (tokens_of number (at_view local ∷ []))) }
-    ensures next { result ≡ behind_sets duty (tokens_of number (at_view local ∷ [])) }
+    ensures blames { Blames least.old least.new (first_counts (duty_specs.wants_setting duty) (tokens_of number (at_view local ∷ []))) }
+    ensures next { result ≡ duty_specs.behind_sets duty (tokens_of number (at_view local ∷ [])) }
 {
     if local.value == number {
         blame_unless(least, wants_setting(duty), local.at as usize);
@@ -106,8 +106,8 @@ fn set_local(least: &mut Option<usize>, duty: Duty, number: u32, local: At<u32>)
 }
 
 fn simple_sets(least: &mut Option<usize>, duty: Duty, number: u32, statement: &RawSimple) -> Duty
-    ensures blames { Blames least.old least.new (first_counts (wants_setting_lem duty) (sets number (simple_view statement.now))) }
-    ensures next { result ≡ behind_simple number duty (simple_view statement.now) }
+    ensures blames { Blames least.old least.new (first_counts (duty_specs.wants_setting duty) (sets number (simple_view statement.now))) }
+    ensures next { result ≡ duty_specs.behind_simple number duty (simple_view statement.now) }
 {
     match statement {
         RawSimple::Assign { local, .. } => set_local(least, duty, number, *local),
@@ -122,8 +122,8 @@ fn simple_sets(least: &mut Option<usize>, duty: Duty, number: u32, statement: &R
 
 /// A statement without blocks, and what is due behind it.
 fn simple(least: &mut Option<usize>, duty: Duty, number: u32, statement: &RawSimple) -> Duty
-    ensures blames { Blames least.old least.new (simple_under number duty (simple_view statement.now)) }
-    ensures next { result ≡ behind_simple number duty (simple_view statement.now) }
+    ensures blames { Blames least.old least.new (duty_specs.simple_under number duty (simple_view statement.now)) }
+    ensures next { result ≡ duty_specs.behind_simple number duty (simple_view statement.now) }
 {
     simple_reads(least, duty, number, statement);
     simple_sets(least, duty, number, statement)
@@ -132,7 +132,7 @@ fn simple(least: &mut Option<usize>, duty: Duty, number: u32, statement: &RawSim
 /// The arms of an `if`, and what stands behind it.
 fn open_choice(duties: &mut Vec<Duty>, duty: Duty) -> Result<(), AllocError>
     ensures { OnOk result (innermost_first duties.new.items
-        ≡ in_arm_lem duty ∷ in_arm_lem duty ∷ behind_if_lem duty ∷ innermost_first duties.old.items) }
+        ≡ duty_specs.in_arm duty ∷ duty_specs.in_arm duty ∷ duty_specs.behind_if duty ∷ innermost_first duties.old.items) }
 {
     let behind = behind_if(duty);
     let arm = in_arm(duty);
@@ -144,7 +144,7 @@ fn open_choice(duties: &mut Vec<Duty>, duty: Duty) -> Result<(), AllocError>
 
 /// The block of a `for`, and what stands behind it.
 fn open_loop(duties: &mut Vec<Duty>, duty: Duty) -> Result<(), AllocError>
-    ensures { OnOk result (innermost_first duties.new.items ≡ in_loop_lem duty ∷ behind_loop_lem duty ∷ innermost_first duties.old.items) }
+    ensures { OnOk result (innermost_first duties.new.items ≡ duty_specs.in_loop duty ∷ duty_specs.behind_loop duty ∷ innermost_first duties.old.items) }
 {
     let behind = behind_loop(duty);
     let inside = in_loop(duty);

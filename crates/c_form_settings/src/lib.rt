@@ -1,4 +1,5 @@
-//! The rule of form on the settings of locals, asked of the raw tree of a C text: which is the least token that breaks it.
+//! Rule 4 of form, settings, asked of the raw tree of a C text: which is the least token at which a local is not set as it is
+//! declared.
 //!
 //! A constant is never set again. A local that is declared without a value is set once in each arm of the next `if` of its block,
 //! one that is declared with a value and isn't constant once in the next `for`, behind its `break`.
@@ -10,6 +11,8 @@
 mod duty;
 mod follow;
 mod pass;
-pub mod settings;
+mod settings;
 mod simple;
 mod state;
+
+pub use settings::settings_fault;

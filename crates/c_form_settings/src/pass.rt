@@ -3,7 +3,7 @@
 ghost use Rattle.std.specs.Prelude.{◌≡◌, ◌++◌, ◌∷◌, ℕ, List, [], None, IfOk, OnOk, map, nat_eq, suc};
 ghost use Rattle.std.specs.List.{flat_map};
 ghost use Rattle.indexmap.specs.IndexMap.{get};
-ghost use Rattle.c_form_settings.specs.Passes.{Declares, IsPass, Moves, blocks, depth_of, due_at, headed, is_live as is_live_lem, joined, lacking_in, outer_blocks, told};
+ghost use Rattle.c_form_settings.specs.Passes as passes;
 ghost use Rattle.c_form_settings.specs.States.{size};
 ghost use Rattle.c_form_settings.specs.declared.state.Event.TheVariants as event;
 ghost use Rattle.c_form.specs.Blames.{Blames};
@@ -53,7 +53,7 @@ fn new_frame(alloc: Global, ending: Vec<u32>, turns: Vec<u32>) -> Frame
 
 /// The begin of a body.
 pub fn no_locals(alloc: Global) -> Pass
-    ensures holds { IsPass result }
+    ensures holds { passes.IsPass result }
     ensures none { (i : ℕ) → get nat_eq result.locals i ≡ None }
 {
     Pass {
@@ -65,14 +65,14 @@ pub fn no_locals(alloc: Global) -> Pass
 
 /// How many blocks are open.
 pub fn depth(pass: &Pass) -> usize
-    ensures { result ≡ depth_of pass.now }
+    ensures { result ≡ passes.depth_of pass.now }
 {
     pass.outer.len() + 1
 }
 
 /// What is due of a number in the innermost block.
 pub fn duty_of(pass: &Pass, number: u32) -> Duty
-    ensures { result ≡ due_at (depth_of pass.now) (get nat_eq pass.now.locals number) }
+    ensures { result ≡ passes.due_at (passes.depth_of pass.now) (get nat_eq pass.now.locals number) }
 {
     match pass.locals.get(&number).copied() {
         Some(local) => duty_here(local, depth(pass)),
@@ -82,7 +82,7 @@ pub fn duty_of(pass: &Pass, number: u32) -> Duty
 
 /// The block of its declaration is open.
 pub fn is_live(pass: &Pass, number: u32) -> bool
-    ensures { result ≡ is_live_lem (get nat_eq pass.now.locals number) }
+    ensures { result ≡ passes.is_live (get nat_eq pass.now.locals number) }
 {
     match pass.locals.get(&number).copied() {
         Some(local) => !matches!(local.state, State::Gone),
@@ -97,7 +97,7 @@ pub fn tell(
     depth: usize,
     number: u32,
 ) -> Result<(), NoMemory>
-    ensures { OnOk result ((i : ℕ) → get nat_eq locals.new i ≡ told event depth i (number ∷ []) (get nat_eq locals.old i)) }
+    ensures { OnOk result ((i : ℕ) → get nat_eq locals.new i ≡ passes.told event depth i (number ∷ []) (get nat_eq locals.old i)) }
 {
     if let Some(local) = locals.get(&number).copied() {
         locals.insert(number, next(event, depth, local))?;
@@ -111,7 +111,7 @@ fn tell_all(
     depth: usize,
     numbers: &[u32],
 ) -> Result<(), NoMemory>
-    ensures { OnOk result ((i : ℕ) → get nat_eq locals.new i ≡ told event depth i numbers.now (get nat_eq locals.old i)) }
+    ensures { OnOk result ((i : ℕ) → get nat_eq locals.new i ≡ passes.told event depth i numbers.now (get nat_eq locals.old i)) }
 {
     for number in numbers {
         tell(locals, event, depth, *number)?;
@@ -129,8 +129,8 @@ fn copied(alloc: Global, numbers: &[u32]) -> Result<Vec<u32>, NoMemory>
 /// Opens a block in the innermost one.
 fn open_block(pass: &mut Pass, fresh: Frame) -> Result<(), NoMemory>
     ensures locals { OnOk result (pass.new.locals ≡ pass.old.locals) }
-    ensures blocks { OnOk result (blocks pass.new ≡ fresh ∷ blocks pass.old) }
-    ensures depth { OnOk result (depth_of pass.new ≡ suc (depth_of pass.old)) }
+    ensures blocks { OnOk result (passes.blocks pass.new ≡ fresh ∷ passes.blocks pass.old) }
+    ensures depth { OnOk result (passes.depth_of pass.new ≡ suc (passes.depth_of pass.old)) }
 {
     let around = std::mem::replace(&mut pass.frame, fresh);
     pass.outer.push(around)?;
@@ -139,7 +139,7 @@ fn open_block(pass: &mut Pass, fresh: Frame) -> Result<(), NoMemory>
 
 /// Opens the arms of an `if`, in which the locals of the innermost block are to be set that waited for it.
 pub fn open_choice(alloc: Global, pass: &mut Pass) -> Result<(), NoMemory>
-    ensures { OnOk result (IsPass pass.old → Moves event.Choice pass.old pass.new) }
+    ensures { OnOk result (passes.IsPass pass.old → passes.Moves event.Choice pass.old pass.new) }
 {
     let opened = depth(pass);
     let joins = std::mem::replace(&mut pass.frame.joins, Vec::new(alloc));
@@ -152,7 +152,7 @@ pub fn open_choice(alloc: Global, pass: &mut Pass) -> Result<(), NoMemory>
 
 /// Opens the block of a `for`, in which the locals of the innermost block are to be set that waited for it.
 pub fn open_loop(alloc: Global, pass: &mut Pass) -> Result<(), NoMemory>
-    ensures { OnOk result (IsPass pass.old → Moves event.Loop pass.old pass.new) }
+    ensures { OnOk result (passes.IsPass pass.old → passes.Moves event.Loop pass.old pass.new) }
 {
     let opened = depth(pass);
     let heads = std::mem::replace(&mut pass.frame.heads, Vec::new(alloc));
@@ -164,7 +164,7 @@ pub fn open_loop(alloc: Global, pass: &mut Pass) -> Result<(), NoMemory>
 
 /// Goes behind a `break`.
 pub fn leave(alloc: Global, pass: &mut Pass) -> Result<(), NoMemory>
-    ensures { OnOk result (IsPass pass.old → Moves event.Break pass.old pass.new) }
+    ensures { OnOk result (passes.IsPass pass.old → passes.Moves event.Break pass.old pass.new) }
 {
     let opened = depth(pass);
     let turns = std::mem::replace(&mut pass.frame.turns, Vec::new(alloc));
@@ -174,14 +174,14 @@ pub fn leave(alloc: Global, pass: &mut Pass) -> Result<(), NoMemory>
 
 /// Blames the end of a block where a setting is missing.
 fn lacking(pass: &Pass, least: &mut Option<usize>, number: u32, at: usize)
-    ensures { Blames least.old least.new (lacking_in pass.now at number) }
+    ensures { Blames least.old least.new (passes.lacking_in pass.now at number) }
 {
     let lacks = lacks_setting(duty_of(pass, number));
     blame_unless(least, !lacks, at);
 }
 
 fn all_lacking(pass: &Pass, least: &mut Option<usize>, numbers: &[u32], at: usize)
-    ensures { Blames least.old least.new (flat_map (lacking_in pass.now at) numbers.now) }
+    ensures { Blames least.old least.new (flat_map (passes.lacking_in pass.now at) numbers.now) }
 {
     for number in numbers {
         lacking(pass, least, *number, at);
@@ -191,7 +191,7 @@ fn all_lacking(pass: &Pass, least: &mut Option<usize>, numbers: &[u32], at: usiz
 /// Goes back to the block around the innermost one. The block of the body stays.
 fn close_block(pass: &mut Pass)
     ensures locals { pass.new.locals ≡ pass.old.locals }
-    ensures blocks { blocks pass.new ≡ outer_blocks (blocks pass.old) }
+    ensures blocks { passes.blocks pass.new ≡ passes.outer_blocks (passes.blocks pass.old) }
 {
     if let Some(around) = pass.outer.pop() {
         let _closed = std::mem::replace(&mut pass.frame, around);
@@ -200,8 +200,8 @@ fn close_block(pass: &mut Pass)
 
 /// Ends the innermost block.
 pub fn close(pass: &mut Pass, least: &mut Option<usize>, at: usize) -> Result<(), NoMemory>
-    ensures blames { OnOk result (Blames least.old least.new (flat_map (lacking_in pass.old at) pass.old.frame.ending.items)) }
-    ensures moves { OnOk result (IsPass pass.old → Moves event.Close pass.old pass.new) }
+    ensures blames { OnOk result (Blames least.old least.new (flat_map (passes.lacking_in pass.old at) pass.old.frame.ending.items)) }
+    ensures moves { OnOk result (passes.IsPass pass.old → passes.Moves event.Close pass.old pass.new) }
 {
     all_lacking(pass, least, &pass.frame.ending, at);
     let opened = depth(pass);
@@ -213,8 +213,8 @@ pub fn close(pass: &mut Pass, least: &mut Option<usize>, at: usize) -> Result<()
 /// Lists a number with those of a block that wait.
 fn wait(frame: &mut Frame, number: u32, state: State) -> Result<(), NoMemory>
     ensures ending { frame.new.ending ≡ frame.old.ending }
-    ensures joins { OnOk result (frame.new.joins.items ≡ joined state number frame.old.joins.items) }
-    ensures heads { OnOk result (frame.new.heads.items ≡ headed state number frame.old.heads.items) }
+    ensures joins { OnOk result (frame.new.joins.items ≡ passes.joined state number frame.old.joins.items) }
+    ensures heads { OnOk result (frame.new.heads.items ≡ passes.headed state number frame.old.heads.items) }
     ensures turns { frame.new.turns ≡ frame.old.turns }
 {
     match state {
@@ -227,7 +227,7 @@ fn wait(frame: &mut Frame, number: u32, state: State) -> Result<(), NoMemory>
 
 /// Declares a local in the innermost block.
 pub fn declare(pass: &mut Pass, number: u32, state: State) -> Result<(), NoMemory>
-    ensures { OnOk result (size state ≡ 1 → IsPass pass.old → Declares number state pass.old pass.new) }
+    ensures { OnOk result (size state ≡ 1 → passes.IsPass pass.old → passes.Declares number state pass.old pass.new) }
 {
     pass.frame.ending.push(number)?;
     wait(&mut pass.frame, number, state)?;

@@ -1,11 +1,10 @@
-//! How often locals are set, and where.
-ghost use Rattle.std.specs.Prelude.{◌≡◌, ◌∷◌, IfOk, OnOk, map, true};
-ghost use Rattle.std.specs.List.{flat_map, list_all};
+//! Rule 4 of form, settings: how often locals are set, and where.
+ghost use Rattle.std.specs.Prelude.{◌≡◌, ◌∷◌, IfOk, OnOk, true};
 ghost use Rattle.c_tree.specs.Form.{least_of};
 ghost use Rattle.c_tree.specs.rules.Bodies as bodies;
 ghost use Rattle.c_tree.specs.rules.Settings.{set_as_declared, settings_in};
 ghost use Rattle.c_raw.specs.Blocks.{block_view, is_body};
-ghost use Rattle.c_raw.specs.Views.{file_view, has_bodies, module_has_bodies, module_view};
+ghost use Rattle.c_raw.specs.Views.{file_view, has_bodies};
 ghost use Rattle.c_form.specs.Blames.{Blames};
 ghost use Rattle.c_form.specs.Bodies.{body_view, is_one_block};
 ghost use Rattle.c_form_settings.specs.Passes.{IsPass, Keeps};
@@ -13,7 +12,8 @@ ghost use Rattle.c_form_settings.specs.Walks.{settings_flat};
 
 use crate::pass::{Pass, close, leave, no_locals, open_choice, open_loop};
 use crate::simple::{read, simple};
-use c_form::body::{Body, bodies_of, statements};
+use c_form::body::{Body, statements};
+use c_form::walk::{BodyRule, in_bodies};
 use c_raw::{RawFile, RawModule, RawStatement};
 use std::alloc::Global;
 use va_base::NoMemory;
@@ -56,36 +56,28 @@ fn block(alloc: Global, least: &mut Option<usize>, list: &[RawStatement]) -> Res
     Ok(())
 }
 
-fn all_bodies(alloc: Global, least: &mut Option<usize>, list: &[Body]) -> Result<(), NoMemory>
-    requires { list_all is_one_block list.now ≡ true }
-    ensures { OnOk result (Blames least.old least.new
-        (flat_map (λ b. settings_in (bodies.RawBody.block b)) (map body_view list.now))) }
+fn one_body(alloc: Global, least: &mut Option<usize>, body: &Body) -> Result<(), NoMemory>
+    requires { is_one_block body.now ≡ true }
+    ensures { OnOk result (Blames least.old least.new (settings_in (bodies.RawBody.block (body_view body.now)))) }
 {
-    for body in list {
-        block(alloc, least, statements(body))?;
-    }
+    block(alloc, least, statements(body))?;
     Ok(())
 }
 
-fn one_module(alloc: Global, least: &mut Option<usize>, tree: &RawModule) -> Result<(), NoMemory>
-    requires { module_has_bodies tree.now ≡ true }
-    ensures { OnOk result (Blames least.old least.new
-        (flat_map (λ b. settings_in (bodies.RawBody.block b)) (bodies.bodies_of (module_view tree.now)))) }
-{
-    let list = bodies_of(alloc, tree)?;
-    all_bodies(alloc, least, &list)?;
-    Ok(())
-}
+/// The rule, as it is asked of each body.
+struct Settings;
 
-fn modules(alloc: Global, least: &mut Option<usize>, list: &[RawModule]) -> Result<(), NoMemory>
-    requires { list_all module_has_bodies list.now ≡ true }
-    ensures { OnOk result (Blames least.old least.new
-        (flat_map (λ m. flat_map (λ b. settings_in (bodies.RawBody.block b)) (bodies.bodies_of m)) (map module_view list.now))) }
-{
-    for tree in list {
-        one_module(alloc, least, tree)?;
+impl BodyRule for Settings {
+    ghost blamed = { λ m b. settings_in (bodies.RawBody.block b) };
+
+    fn blame_body(
+        alloc: Global,
+        least: &mut Option<usize>,
+        _tree: &RawModule,
+        body: &Body,
+    ) -> Result<(), NoMemory> {
+        one_body(alloc, least, body)
     }
-    Ok(())
 }
 
 /// The least token at which a local is set that is not to be set there, or is read before the `if` that sets it, or the closing
@@ -100,6 +92,6 @@ pub fn settings_fault(alloc: Global, raw: &RawFile) -> Result<Option<usize>, NoM
     ensures { IfOk result (λ least. least ≡ least_of (set_as_declared (file_view raw.now))) }
 {
     let mut least = None;
-    modules(alloc, &mut least, raw.modules.as_list())?;
+    in_bodies::<Settings>(alloc, &mut least, raw)?;
     Ok(least)
 }

@@ -7,7 +7,7 @@ ghost use Rattle.c_raw.specs.Blocks.{at_view, simple_view};
 ghost use Rattle.c_raw.specs.declared.body.RawStatement.{RawStatement as SpecStatement};
 ghost use Rattle.c_raw.specs.declared.body.RawStatement.TheVariants.{Simple};
 ghost use Rattle.c_form.specs.Blames.{Blames};
-ghost use Rattle.c_form_settings.specs.Passes.{IsPass, Keeps, blocks, depth_of, early_in, is_live as is_live_lem, numbers_in, told, wrong_in};
+ghost use Rattle.c_form_settings.specs.Passes as passes;
 ghost use Rattle.c_form_settings.specs.Starts.{start_flat};
 ghost use Rattle.c_form_settings.specs.Walks.{declaration_flat};
 ghost use Rattle.c_form_settings.specs.declared.state.Event.TheVariants as event;
@@ -25,7 +25,7 @@ use va_base::NoMemory;
 
 /// Blames an atom that reads a local too early.
 pub fn read(pass: &Pass, least: &mut Option<usize>, atom: At<CAtom>)
-    ensures { Blames least.old least.new (early_in pass.now (at_view atom)) }
+    ensures { Blames least.old least.new (passes.early_in pass.now (at_view atom)) }
 {
     if let CAtom::Local(number) = atom.value {
         let unread = is_unread(duty_of(pass, number));
@@ -34,7 +34,7 @@ pub fn read(pass: &Pass, least: &mut Option<usize>, atom: At<CAtom>)
 }
 
 fn read_all(pass: &Pass, least: &mut Option<usize>, atoms: &[At<CAtom>])
-    ensures { Blames least.old least.new (flat_map (early_in pass.now) (map at_view atoms.now)) }
+    ensures { Blames least.old least.new (flat_map (passes.early_in pass.now) (map at_view atoms.now)) }
 {
     for atom in atoms {
         read(pass, least, *atom);
@@ -48,7 +48,7 @@ pub fn reads(
     least: &mut Option<usize>,
     statement: &RawSimple,
 ) -> Result<(), NoMemory>
-    ensures { OnOk result (Blames least.old least.new (flat_map (early_in pass.now) (atoms_of_simple (simple_view statement.now)))) }
+    ensures { OnOk result (Blames least.old least.new (flat_map (passes.early_in pass.now) (atoms_of_simple (simple_view statement.now)))) }
 {
     let atoms = simple_atoms(alloc, statement)?;
     read_all(pass, least, &atoms);
@@ -57,10 +57,10 @@ pub fn reads(
 
 /// Sets a local, and blames the token where it is not to be set.
 fn set_local(pass: &mut Pass, least: &mut Option<usize>, local: At<u32>) -> Result<(), NoMemory>
-    ensures blames { OnOk result (Blames least.old least.new (wrong_in pass.old (at_view local ∷ []))) }
-    ensures blocks { OnOk result (blocks pass.new ≡ blocks pass.old) }
+    ensures blames { OnOk result (Blames least.old least.new (passes.wrong_in pass.old (at_view local ∷ []))) }
+    ensures blocks { OnOk result (passes.blocks pass.new ≡ passes.blocks pass.old) }
     ensures told { OnOk result ((i : ℕ) → get nat_eq pass.new.locals i
-        ≡ told event.Set (depth_of pass.old) i (local.value ∷ []) (get nat_eq pass.old.locals i)) }
+        ≡ passes.told event.Set (passes.depth_of pass.old) i (local.value ∷ []) (get nat_eq pass.old.locals i)) }
 {
     let wanted = wants_setting(duty_of(pass, local.value));
     let dead = !is_live(pass, local.value);
@@ -71,10 +71,10 @@ fn set_local(pass: &mut Pass, least: &mut Option<usize>, local: At<u32>) -> Resu
 }
 
 fn sets(pass: &mut Pass, least: &mut Option<usize>, statement: &RawSimple) -> Result<(), NoMemory>
-    ensures blames { OnOk result (Blames least.old least.new (wrong_in pass.old (assigned (simple_view statement.now)))) }
-    ensures blocks { OnOk result (blocks pass.new ≡ blocks pass.old) }
+    ensures blames { OnOk result (Blames least.old least.new (passes.wrong_in pass.old (assigned (simple_view statement.now)))) }
+    ensures blocks { OnOk result (passes.blocks pass.new ≡ passes.blocks pass.old) }
     ensures told { OnOk result ((i : ℕ) → get nat_eq pass.new.locals i
-        ≡ told event.Set (depth_of pass.old) i (numbers_in (assigned (simple_view statement.now))) (get nat_eq pass.old.locals i)) }
+        ≡ passes.told event.Set (passes.depth_of pass.old) i (passes.numbers_in (assigned (simple_view statement.now))) (get nat_eq pass.old.locals i)) }
 {
     match statement {
         RawSimple::Assign { local, .. } => set_local(pass, least, *local)?,
@@ -95,9 +95,9 @@ fn uses(
     least: &mut Option<usize>,
     statement: &RawSimple,
 ) -> Result<(), NoMemory>
-    ensures { OnOk result (IsPass pass.old → IsPass pass.new
+    ensures { OnOk result (passes.IsPass pass.old → passes.IsPass pass.new
         × ((rest : List SpecStatement) (others : List ℕ)
-        → Keeps least.old least.new pass.old pass.new (Simple statement.now ∷ rest) rest others others)) }
+        → passes.Keeps least.old least.new pass.old pass.new (Simple statement.now ∷ rest) rest others others)) }
 {
     reads(alloc, pass, least, statement)?;
     sets(pass, least, statement)?;
@@ -113,8 +113,8 @@ fn declares_again(
     start: Start,
     rest: &[RawStatement],
 ) -> Result<(), NoMemory>
-    ensures { OnOk result (IsPass pass.now → is_live_lem (get nat_eq pass.now.locals start.number) ≡ true → (others : List ℕ)
-        → Keeps least.old least.new pass.now pass.now rest.now rest.now (start_flat (Some start) rest.now ++ others) others) }
+    ensures { OnOk result (passes.IsPass pass.now → passes.is_live (get nat_eq pass.now.locals start.number) ≡ true → (others : List ℕ)
+        → passes.Keeps least.old least.new pass.now pass.now rest.now rest.now (start_flat (Some start) rest.now ++ others) others) }
 {
     let due = duty_of(pass, start.number);
     if !is_due(due, start.state) {
@@ -131,8 +131,8 @@ fn declares(
     statement: &RawSimple,
     rest: &[RawStatement],
 ) -> Result<(), NoMemory>
-    ensures { OnOk result (IsPass pass.old → IsPass pass.new × ((others : List ℕ)
-        → Keeps least.old least.new pass.old pass.new rest.now rest.now (declaration_flat statement.now rest.now ++ others) others)) }
+    ensures { OnOk result (passes.IsPass pass.old → passes.IsPass pass.new × ((others : List ℕ)
+        → passes.Keeps least.old least.new pass.old pass.new rest.now rest.now (declaration_flat statement.now rest.now ++ others) others)) }
 {
     let Some(start) = declared(statement) else {
         return Ok(());
@@ -153,8 +153,8 @@ pub fn simple(
     statement: &RawSimple,
     rest: &[RawStatement],
 ) -> Result<(), NoMemory>
-    ensures { OnOk result (IsPass pass.old → IsPass pass.new × ((others : List ℕ)
-        → Keeps least.old least.new pass.old pass.new (Simple statement.now ∷ rest.now) rest.now
+    ensures { OnOk result (passes.IsPass pass.old → passes.IsPass pass.new × ((others : List ℕ)
+        → passes.Keeps least.old least.new pass.old pass.new (Simple statement.now ∷ rest.now) rest.now
         (declaration_flat statement.now rest.now ++ others) others)) }
 {
     uses(alloc, pass, least, statement)?;

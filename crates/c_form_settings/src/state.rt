@@ -1,6 +1,6 @@
 //! How far the settings of a declared local have come, and what is due of it in the open blocks.
 ghost use Rattle.std.specs.Prelude.{◌≡◌, ◌-◌, true};
-ghost use Rattle.c_form_settings.specs.States.{at_break, at_choice, at_end, at_loop, at_setting, becomes as becomes_lem, due_here as due_here_lem, further as further_lem, here, inmost as inmost_lem, next as next_lem, size as size_lem};
+ghost use Rattle.c_form_settings.specs.States as states;
 
 use crate::duty::Duty;
 
@@ -53,7 +53,7 @@ pub enum Event {
 
 /// In how many of the open blocks, from that of the declaration on, something is due that is due in no block inside them.
 fn size(state: State) -> usize
-    ensures { result ≡ size_lem state }
+    ensures { result ≡ states.size state }
 {
     match state {
         State::Settled | State::AwaitsChoice | State::AwaitsLoop => 1,
@@ -66,7 +66,7 @@ fn size(state: State) -> usize
 
 /// What is due in the innermost of these blocks.
 pub fn inmost(state: State) -> Duty
-    ensures { result ≡ inmost_lem state }
+    ensures { result ≡ states.inmost state }
 {
     match state {
         State::AwaitsChoice => Duty::Join,
@@ -81,7 +81,7 @@ pub fn inmost(state: State) -> Duty
 
 /// What is due in the blocks inside these.
 fn further(state: State) -> Duty
-    ensures { result ≡ further_lem state }
+    ensures { result ≡ states.further state }
 {
     match state {
         State::AwaitsChoice
@@ -95,7 +95,7 @@ fn further(state: State) -> Duty
 
 /// The same is due as of a local in this state in the block of its declaration, where it has just been declared.
 pub fn is_due(duty: Duty, state: State) -> bool
-    ensures { result ≡ true → duty ≡ inmost_lem state }
+    ensures { result ≡ true → duty ≡ states.inmost state }
 {
     match state {
         State::Settled => matches!(duty, Duty::Unset),
@@ -106,7 +106,7 @@ pub fn is_due(duty: Duty, state: State) -> bool
 }
 
 fn behind_choice(state: State) -> State
-    ensures { result ≡ at_choice state }
+    ensures { result ≡ states.at_choice state }
 {
     match state {
         State::AwaitsChoice => State::FirstArm,
@@ -115,7 +115,7 @@ fn behind_choice(state: State) -> State
 }
 
 fn behind_loop(state: State) -> State
-    ensures { result ≡ at_loop state }
+    ensures { result ≡ states.at_loop state }
 {
     match state {
         State::AwaitsLoop => State::BeforeBreak,
@@ -124,7 +124,7 @@ fn behind_loop(state: State) -> State
 }
 
 fn behind_break(state: State) -> State
-    ensures { result ≡ at_break state }
+    ensures { result ≡ states.at_break state }
 {
     match state {
         State::BeforeBreak => State::BehindBreak,
@@ -133,7 +133,7 @@ fn behind_break(state: State) -> State
 }
 
 fn behind_end(state: State) -> State
-    ensures { result ≡ at_end state }
+    ensures { result ≡ states.at_end state }
 {
     match state {
         State::Settled | State::AwaitsChoice | State::AwaitsLoop | State::Gone => State::Gone,
@@ -144,7 +144,7 @@ fn behind_end(state: State) -> State
 }
 
 fn behind_setting(state: State) -> State
-    ensures { result ≡ at_setting state }
+    ensures { result ≡ states.at_setting state }
 {
     match state {
         State::FirstArm => State::FirstArmSet,
@@ -156,7 +156,7 @@ fn behind_setting(state: State) -> State
 
 /// The state behind something that happens in the innermost block in which something of its own is due.
 fn becomes(event: Event, state: State) -> State
-    ensures { result ≡ becomes_lem event state }
+    ensures { result ≡ states.becomes event state }
 {
     match event {
         Event::Choice => behind_choice(state),
@@ -169,7 +169,7 @@ fn becomes(event: Event, state: State) -> State
 
 /// The innermost of so many open blocks is the one in which something of its own is due.
 fn is_here(local: Local, depth: usize) -> bool
-    ensures { result ≡ here (depth - local.base) local.state }
+    ensures { result ≡ states.here (depth - local.base) local.state }
 {
     let opened = depth.saturating_sub(local.base);
     opened == size(local.state)
@@ -177,7 +177,7 @@ fn is_here(local: Local, depth: usize) -> bool
 
 /// What is due in the innermost of so many open blocks.
 pub fn duty_here(local: Local, depth: usize) -> Duty
-    ensures { result ≡ due_here_lem (depth - local.base) local.state }
+    ensures { result ≡ states.due_here (depth - local.base) local.state }
 {
     if is_here(local, depth) {
         inmost(local.state)
@@ -188,7 +188,7 @@ pub fn duty_here(local: Local, depth: usize) -> Duty
 
 /// The local behind something that happens in the innermost of so many open blocks.
 pub fn next(event: Event, depth: usize, local: Local) -> Local
-    ensures { result ≡ next_lem event depth local }
+    ensures { result ≡ states.next event depth local }
 {
     if is_here(local, depth) {
         Local {

@@ -1,17 +1,18 @@
 -- A place of a body, and what the program keeps of the types there.
-use Rattle.std.specs.Prelude.{◌≡◌, ℕ, nat_eq, List, map}
+use Rattle.std.specs.Prelude.{◌≡◌, ℕ, nat_eq, List, map, Option}
 use Rattle.std.specs.List.{flat_map}
 use Rattle.indexmap.specs.IndexMap.{get}
 use Rattle.c_tree.specs.Raw.{RawModule}
 use Rattle.c_tree.specs.rules.Bodies.{Declared, Item, Scoped, RawBody, items_of, bodies_of}
 use Rattle.c_tree.specs.rules.Types.{item_differs}
 use Rattle.c_raw.specs.Views.{module_view}
+use Rattle.c_form.specs.Blames.{Blames}
 use Rattle.c_form.specs.Bodies.{body_view}
 use Rattle.c_form.specs.FieldTypes.{HasTypes}
 use Rattle.c_form.specs.Scopes.{IsKnown}
 use Rattle.c_form.specs.Uses.{HasArguments}
-use Rattle.c_form.specs.declared.scope.Scope.{Scope}
 use Rattle.c_form_types.specs.declared.atom_types.BodyTypes.{BodyTypes}
+use Rattle.c_form_types.specs.declared.atom_types.Walk.{Walk}
 
 -- a place: the module and the body in which it is, and the locals that are known there
 pub record Place : Type 0 where
@@ -26,10 +27,14 @@ pub record AreTypes (types : BodyTypes) (m : RawModule) (b : RawBody) : Type 0 w
   pub cells : HasTypes types.cells.now m
   pub arguments : HasArguments (get nat_eq types.arguments) b
 
--- these are the types at a place
-pub record IsAt (types : BodyTypes) (scope : Scope) (p : Place) : Type 0 where
-  pub types_of : AreTypes types p.tree p.body
-  pub locals : IsKnown (get nat_eq scope.types) p.known
+-- a walk over a body stands at a place
+pub record IsAt (walk : Walk) (p : Place) : Type 0 where
+  pub types_of : AreTypes walk.types.now p.tree p.body
+  pub locals : IsKnown (get nat_eq walk.scope.now.types) p.known
+
+-- where a walk stands these tokens are blamed, by the place at which it stands
+abbrev pub BlamesAt : Walk → Option ℕ → Option ℕ → (Place → List ℕ) → Type 0
+BlamesAt walk old new tokens = (p : Place) → IsAt walk p → Blames old new (tokens p)
 
 -- what the rule on types blames in an item of a body
 abbrev pub item_blamed : RawModule → RawBody → Scoped → List ℕ

@@ -1,13 +1,13 @@
 //! The types of atoms, and atoms where a type is wanted.
 ghost use Rattle.std.specs.Prelude.{◌≡◌, IfOk, OnOk};
-ghost use Rattle.c_tree.specs.SameType.{same_type as same_type_lem};
-ghost use Rattle.c_tree.specs.rules.Types.{differs as differs_lem, type_of_atom, wanted as wanted_lem, wanted_by as wanted_by_lem};
+ghost use Rattle.c_tree.specs.SameType as type_equality;
+ghost use Rattle.c_tree.specs.rules.Types as rule;
 ghost use Rattle.c_raw.specs.Blocks.{at_view};
 ghost use Rattle.c_raw.specs.Views.{module_view};
 ghost use Rattle.c_form.specs.Blames.{Blames};
 ghost use Rattle.c_form.specs.Bodies.{body_view};
 ghost use Rattle.c_form.specs.FieldTypes.{HasTypes};
-ghost use Rattle.c_form_types.specs.Places.{Place, AreTypes, IsAt};
+ghost use Rattle.c_form_types.specs.Places.{BlamesAt, Place, AreTypes, IsAt};
 
 use alg_laws::Ty;
 use c_form::arguments::{argument_type, argument_types, arguments};
@@ -49,22 +49,26 @@ pub fn body_types<'a>(
     })
 }
 
+/// Where a walk over a body stands: what the rule looks at there.
+#[derive(Clone, Copy, Drop)]
+pub struct Walk<'a> {
+    pub alloc: Global,
+    pub types: &'a BodyTypes<'a>,
+    /// The locals that are known here.
+    pub scope: &'a Scope,
+}
+
 /// The type of an atom, where it is there.
-pub fn atom_type(
-    alloc: Global,
-    types: &BodyTypes,
-    scope: &Scope,
-    atom: CAtom,
-) -> Result<Option<Ty>, NoMemory>
-    ensures { IfOk result (λ ty. (p : Place) → IsAt types.now scope.now p → ty ≡ type_of_atom p.tree p.body p.known atom) }
+pub fn atom_type(walk: &Walk, atom: CAtom) -> Result<Option<Ty>, NoMemory>
+    ensures { IfOk result (λ ty. (p : Place) → IsAt walk.now p → ty ≡ rule.type_of_atom p.tree p.body p.known atom) }
 {
     match atom {
-        CAtom::Local(number) => Ok(local_type(scope, number)),
-        CAtom::Argument(number) => Ok(argument_type(&types.arguments, number)),
+        CAtom::Local(number) => Ok(local_type(walk.scope, number)),
+        CAtom::Argument(number) => Ok(argument_type(&walk.types.arguments, number)),
         CAtom::Integer(_) => Ok(Some(Ty::Integer)),
         CAtom::Real(_) => Ok(Some(Ty::Real)),
         CAtom::Cell(cell) => {
-            let ty = cell_type(alloc, types.cells, cell)?;
+            let ty = cell_type(walk.alloc, walk.types.cells, cell)?;
             Ok(ty)
         }
         CAtom::Unknown(_) => Ok(Some(Ty::Real)),
@@ -72,7 +76,7 @@ pub fn atom_type(
 }
 
 fn same_type(left: Ty, right: Ty) -> bool
-    ensures { result ≡ same_type_lem left right }
+    ensures { result ≡ type_equality.same_type left right }
 {
     matches!(
         (left, right),
@@ -82,7 +86,7 @@ fn same_type(left: Ty, right: Ty) -> bool
 
 /// What has a type where one is wanted, at its first token.
 pub fn differs(least: &mut Option<usize>, found: Option<Ty>, wanted: Ty, at: u32)
-    ensures { Blames least.old least.new (differs_lem found wanted at) }
+    ensures { Blames least.old least.new (rule.differs found wanted at) }
 {
     if let Some(ty) = found {
         blame_unless(least, same_type(ty, wanted), at as usize);
@@ -91,35 +95,31 @@ pub fn differs(least: &mut Option<usize>, found: Option<Ty>, wanted: Ty, at: u32
 
 /// An atom where a type is wanted.
 pub fn wanted(
-    alloc: Global,
+    walk: &Walk,
     least: &mut Option<usize>,
-    types: &BodyTypes,
-    scope: &Scope,
     ty: Ty,
     atom: At<CAtom>,
 ) -> Result<(), NoMemory>
-    ensures { OnOk result ((p : Place) → IsAt types.now scope.now p
-        → Blames least.old least.new (wanted_lem p.tree p.body p.known ty (at_view atom))) }
+    ensures { OnOk result (BlamesAt walk.now least.old least.new
+        (λ p. rule.wanted p.tree p.body p.known ty (at_view atom))) }
 {
-    let found = atom_type(alloc, types, scope, atom.value)?;
+    let found = atom_type(walk, atom.value)?;
     differs(least, found, ty, atom.at);
     Ok(())
 }
 
 /// An atom where the type of something else is wanted, which may have none.
 pub fn wanted_by(
-    alloc: Global,
+    walk: &Walk,
     least: &mut Option<usize>,
-    types: &BodyTypes,
-    scope: &Scope,
     other: Option<Ty>,
     atom: At<CAtom>,
 ) -> Result<(), NoMemory>
-    ensures { OnOk result ((p : Place) → IsAt types.now scope.now p
-        → Blames least.old least.new (wanted_by_lem p.tree p.body p.known other (at_view atom))) }
+    ensures { OnOk result (BlamesAt walk.now least.old least.new
+        (λ p. rule.wanted_by p.tree p.body p.known other (at_view atom))) }
 {
     if let Some(ty) = other {
-        wanted(alloc, least, types, scope, ty, atom)?;
+        wanted(walk, least, ty, atom)?;
     }
     Ok(())
 }

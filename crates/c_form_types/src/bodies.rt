@@ -8,9 +8,9 @@ ghost use Rattle.c_form.specs.Blames.{Blames};
 ghost use Rattle.c_form.specs.Bodies.{body_view, is_one_block};
 ghost use Rattle.c_form.specs.FieldTypes.{HasTypes};
 ghost use Rattle.c_form.specs.Scopes.{IsKnown, known_at_end, walked};
-ghost use Rattle.c_form_types.specs.Places.{Place, AreTypes, IsAt, item_blamed, returned_blamed};
+ghost use Rattle.c_form_types.specs.Places.{BlamesAt, AreTypes, item_blamed, returned_blamed};
 
-use crate::atom_types::{BodyTypes, body_types, wanted};
+use crate::atom_types::{BodyTypes, Walk, body_types, wanted};
 use crate::statements::statement_differs;
 use c_form::body::{Body, statements};
 use c_form::cell_types::CellTypes;
@@ -20,7 +20,7 @@ use std::alloc::Global;
 use va_base::NoMemory;
 
 /// The statements of a body, and what is known at their end.
-fn walk(
+fn all_statements(
     alloc: Global,
     least: &mut Option<usize>,
     types: &BodyTypes,
@@ -33,25 +33,24 @@ fn walk(
 {
     let mut scope = no_locals(alloc);
     for statement in list {
-        statement_differs(alloc, least, types, &scope, statement)?;
+        let here = Walk {
+            alloc,
+            types: &*types,
+            scope: &scope,
+        };
+        statement_differs(&here, least, statement)?;
         go_behind(alloc, &mut scope, statement)?;
     }
     Ok(scope)
 }
 
 /// The value that a function returns.
-fn returned(
-    alloc: Global,
-    least: &mut Option<usize>,
-    types: &BodyTypes,
-    scope: &Scope,
-    body: &Body,
-) -> Result<(), NoMemory>
-    ensures { OnOk result ((p : Place) → IsAt types.now scope.now p
-        → Blames least.old least.new (returned_blamed p (bodies.RawBody.last (body_view body.now)))) }
+fn returned(walk: &Walk, least: &mut Option<usize>, body: &Body) -> Result<(), NoMemory>
+    ensures { OnOk result (BlamesAt walk.now least.old least.new
+        (λ p. returned_blamed p (bodies.RawBody.last (body_view body.now)))) }
 {
     if let Body::Function(_, function) = *body {
-        wanted(alloc, least, types, scope, function.result, function.value)?;
+        wanted(walk, least, function.result, function.value)?;
     }
     Ok(())
 }
@@ -70,8 +69,13 @@ fn one_body(
         (flat_map (item_blamed (module_view tree.now) (body_view body.now)) (bodies.items_of (body_view body.now)))) }
 {
     let types = body_types(alloc, tree, body, cells)?;
-    let scope = walk(alloc, least, &types, statements(body))?;
-    returned(alloc, least, &types, &scope, body)?;
+    let scope = all_statements(alloc, least, &types, statements(body))?;
+    let end = Walk {
+        alloc,
+        types: &types,
+        scope: &scope,
+    };
+    returned(&end, least, body)?;
     Ok(())
 }
 

@@ -1,4 +1,4 @@
-//! The rule on types, asked of a text.
+//! Rule 6 of form, types, asked of a text.
 ghost use Rattle.std.specs.Prelude.{◌≡◌, IfOk, OnOk, map, true};
 ghost use Rattle.std.specs.List.{flat_map, list_all};
 ghost use Rattle.c_tree.specs.Form.{least_of};

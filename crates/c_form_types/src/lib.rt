@@ -1,4 +1,4 @@
-//! The rule of form on types: operands have the same type, and what is set, passed, tested or returned has the type that is wanted.
+//! Rule 6 of form, types: operands have the same type, and what is set, passed, tested or returned has the type that is wanted.
 //!
 //! It walks the flat lists of statements as the rules of `c_form` do, with the types of the locals that are known at each place.
 #![tactic(auto)]

@@ -1,13 +1,12 @@
 //! The types of right sides.
 ghost use Rattle.std.specs.Prelude.{◌≡◌, IfOk};
-ghost use Rattle.c_tree.specs.rules.Types.{is_comparison as is_comparison_lem, is_remainder as is_remainder_lem, joint as joint_lem, result_of, type_of_atom, type_of_right, fitting as fitting_lem, signature};
+ghost use Rattle.c_tree.specs.rules.Types as rule;
 ghost use Rattle.c_raw.specs.Blocks.{right_view};
 ghost use Rattle.c_form_types.specs.Places.{Place, AreTypes, IsAt};
 
-use crate::atom_types::{BodyTypes, atom_type};
+use crate::atom_types::{BodyTypes, Walk, atom_type};
 use crate::signatures::fitting;
 use alg_laws::Ty;
-use c_form::scope::Scope;
 use c_raw::RawRight;
 use c_tree::{CAtom, CCallee, COperator};
 use std::alloc::Global;
@@ -15,7 +14,7 @@ use va_base::NoMemory;
 
 /// Whether an operator is a comparison.
 fn is_comparison(operator: COperator) -> bool
-    ensures { result ≡ is_comparison_lem operator }
+    ensures { result ≡ rule.is_comparison operator }
 {
     match operator {
         COperator::Plus => false,
@@ -34,14 +33,14 @@ fn is_comparison(operator: COperator) -> bool
 
 /// Whether an operator is `%`.
 pub fn is_remainder(operator: COperator) -> bool
-    ensures { result ≡ is_remainder_lem operator }
+    ensures { result ≡ rule.is_remainder operator }
 {
     matches!(operator, COperator::Remainder)
 }
 
 /// The type that an operator gives, by those of its operands.
 fn joint(operator: COperator, first: Option<Ty>, second: Option<Ty>) -> Option<Ty>
-    ensures { (p : Place) → result ≡ joint_lem p.tree p.body p.known operator first second }
+    ensures { (p : Place) → result ≡ rule.joint p.tree p.body p.known operator first second }
 {
     if is_comparison(operator) || is_remainder(operator) {
         return Some(Ty::Integer);
@@ -54,18 +53,16 @@ fn joint(operator: COperator, first: Option<Ty>, second: Option<Ty>) -> Option<T
 
 /// The type that an operator gives between two atoms.
 fn binary_type(
-    alloc: Global,
-    types: &BodyTypes,
-    scope: &Scope,
+    walk: &Walk,
     left: CAtom,
     operator: COperator,
     right: CAtom,
 ) -> Result<Option<Ty>, NoMemory>
-    ensures { IfOk result (λ ty. (p : Place) → IsAt types.now scope.now p
-        → ty ≡ joint_lem p.tree p.body p.known operator (type_of_atom p.tree p.body p.known left) (type_of_atom p.tree p.body p.known right)) }
+    ensures { IfOk result (λ ty. (p : Place) → IsAt walk.now p
+        → ty ≡ rule.joint p.tree p.body p.known operator (rule.type_of_atom p.tree p.body p.known left) (rule.type_of_atom p.tree p.body p.known right)) }
 {
-    let first = atom_type(alloc, types, scope, left)?;
-    let second = atom_type(alloc, types, scope, right)?;
+    let first = atom_type(walk, left)?;
+    let second = atom_type(walk, right)?;
     Ok(joint(operator, first, second))
 }
 
@@ -77,7 +74,7 @@ fn call_type(
     count: usize,
 ) -> Result<Option<Ty>, NoMemory>
     ensures { IfOk result (λ ty. (p : Place) → AreTypes types.now p.tree p.body
-        → ty ≡ result_of p.tree p.body p.known (fitting_lem (signature p.tree p.body callee) count)) }
+        → ty ≡ rule.result_of p.tree p.body p.known (rule.fitting (rule.signature p.tree p.body callee) count)) }
 {
     match fitting(alloc, types.tree, &types.body, callee, count)? {
         Some(found) => Ok(Some(found.result)),
@@ -86,27 +83,22 @@ fn call_type(
 }
 
 /// The type of a right side, where it has one.
-pub fn right_type(
-    alloc: Global,
-    types: &BodyTypes,
-    scope: &Scope,
-    right: &RawRight,
-) -> Result<Option<Ty>, NoMemory>
-    ensures { IfOk result (λ ty. (p : Place) → IsAt types.now scope.now p → ty ≡ type_of_right p.tree p.body p.known (right_view right.now)) }
+pub fn right_type(walk: &Walk, right: &RawRight) -> Result<Option<Ty>, NoMemory>
+    ensures { IfOk result (λ ty. (p : Place) → IsAt walk.now p → ty ≡ rule.type_of_right p.tree p.body p.known (right_view right.now)) }
 {
     match right {
-        RawRight::Same(atom) => atom_type(alloc, types, scope, atom.value),
-        RawRight::Negated(atom) => atom_type(alloc, types, scope, atom.value),
+        RawRight::Same(atom) => atom_type(walk, atom.value),
+        RawRight::Negated(atom) => atom_type(walk, atom.value),
         RawRight::Contrary(_) => Ok(Some(Ty::Integer)),
         RawRight::ToReal(_) => Ok(Some(Ty::Real)),
         RawRight::ToInteger(_) => Ok(Some(Ty::Integer)),
         RawRight::Call { callee, args } => {
-            call_type(alloc, types, *callee, args.as_list().len())
+            call_type(walk.alloc, walk.types, *callee, args.as_list().len())
         }
         RawRight::Binary {
             left,
             operator,
             right,
-        } => binary_type(alloc, types, scope, left.value, *operator, right.value),
+        } => binary_type(walk, left.value, *operator, right.value),
     }
 }

@@ -1,16 +1,15 @@
 //! The signatures of what is called.
-ghost use Rattle.std.specs.Prelude.{◌≡◌, ◌∷◌, [], Some, IfOk, length, map};
+ghost use Rattle.std.specs.Prelude.{◌≡◌, ◌∷◌, [], Some, IfOk, map};
 ghost use Rattle.alg_laws.specs.declared.number.Ty.TheVariants.{Real as RealTy};
 ghost use Rattle.c_tree.specs.Raw as raw_tree;
-ghost use Rattle.c_tree.specs.rules.Bodies as bodies;
 ghost use Rattle.c_tree.specs.rules.Types as rule;
-ghost use Rattle.c_tree.specs.rules.Types.{fitting as fitting_lem, function_before, function_called, signature, signature_of};
 ghost use Rattle.c_raw.specs.Views.{argument_view, module_view};
 ghost use Rattle.c_form.specs.Bodies.{body_view};
 ghost use Rattle.c_form_types.specs.Signatures.{shown};
 
 use alg_laws::Ty;
 use c_form::body::Body;
+use c_form::calls::functions_before;
 use c_raw::{RawArgument, RawModule};
 use c_tree::CCallee;
 use std::alloc::Global;
@@ -42,7 +41,7 @@ fn two_doubles(alloc: Global) -> Result<Vec<Ty>, NoMemory>
 
 /// The signature of a function of C's library, which gives a double, where it has so many arguments.
 fn library_signature(arguments: Vec<Ty>, count: usize) -> Option<Signature>
-    ensures { shown result ≡ fitting_lem (Some (let s : rule.Signature = record { arguments = arguments.items; result = RealTy } in s)) count }
+    ensures { shown result ≡ rule.fitting (Some (let s : rule.Signature = record { arguments = arguments.items; result = RealTy } in s)) count }
 {
     if arguments.len() != count {
         return None;
@@ -51,18 +50,6 @@ fn library_signature(arguments: Vec<Ty>, count: usize) -> Option<Signature>
         arguments,
         result: Ty::Real,
     })
-}
-
-/// How many functions stand before a body.
-fn functions_before(tree: &RawModule, body: &Body) -> usize
-    ensures { result ≡ function_before (bodies.RawBody.kind (body_view body.now)) (length (raw_tree.RawModule.functions (module_view tree.now))) }
-{
-    match *body {
-        Body::Function(index, _) => index,
-        Body::SetupModel(_) => tree.functions.as_list().len(),
-        Body::SetupInstance(_) => tree.functions.as_list().len(),
-        Body::Evaluation(_) => tree.functions.as_list().len(),
-    }
 }
 
 /// The types of arguments, in order.
@@ -84,7 +71,7 @@ fn function_signature(
     number: u32,
     count: usize,
 ) -> Result<Option<Signature>, NoMemory>
-    ensures { IfOk result (λ found. shown found ≡ fitting_lem (signature_of (function_called (module_view tree.now) (body_view body.now) number)) count) }
+    ensures { IfOk result (λ found. shown found ≡ rule.fitting (rule.signature_of (rule.function_called (module_view tree.now) (body_view body.now) number)) count) }
 {
     let functions = tree.functions.as_list();
     let number = number as usize;
@@ -111,7 +98,7 @@ pub fn fitting(
     callee: CCallee,
     count: usize,
 ) -> Result<Option<Signature>, NoMemory>
-    ensures { IfOk result (λ found. shown found ≡ fitting_lem (signature (module_view tree.now) (body_view body.now) callee) count) }
+    ensures { IfOk result (λ found. shown found ≡ rule.fitting (rule.signature (module_view tree.now) (body_view body.now) callee) count) }
 {
     match callee {
         CCallee::Fun1(_) => {

@@ -6,6 +6,7 @@
 #![tactic(auto)]
 
 pub mod body;
+pub mod field_names;
 pub mod file;
 pub mod load;
 pub mod table;

@@ -7,7 +7,7 @@ use Rattle.c_tree.specs.Raw as raw
 use Rattle.c_raw.specs.Views.{descriptor_view, module_view}
 use Rattle.c_raw.specs.declared.file.RawDescriptor.{RawDescriptor}
 use Rattle.c_raw.specs.declared.file.RawModule.{RawModule}
-use Rattle.c_form.proofs.Blaming.{next-is}
+use Rattle.c_raw.proofs.Elements.{next-is}
 use Rattle.c_raw_file.specs.Parts.{module_at}
 
 one_more : (m : raw.RawModule) (rest : List raw.RawModule) (descriptors : List raw.RawDescriptor)

@@ -3,7 +3,7 @@
 //! The list is walked from its end, so that where a statement with blocks is met, what its blocks hold is known. The blocks whose
 //! statements were met and whose head was not are kept, the next one last.
 ghost use Rattle.std.specs.Prelude.{◌≡◌, ◌+◌, ℕ, List, IfOk, OnOk, reverse, true};
-ghost use Rattle.c_tree.specs.FileOf.{body_of as body_of_lem};
+ghost use Rattle.c_tree.specs.FileOf as files;
 ghost use Rattle.c_tree.specs.declared.body.CStatement.{CStatement as SpecCStatement};
 ghost use Rattle.c_raw.specs.Blocks.{block_view, is_body};
 ghost use Rattle.c_raw.specs.declared.body.RawStatement.TheVariants.{Simple, Leave, If, For, End};
@@ -185,7 +185,7 @@ fn meet(
 /// The statements of a body.
 pub(crate) fn body_of(alloc: Global, list: &[RawStatement]) -> Result<Items<CStatement>, AllocError>
     requires { is_body list.now ≡ true }
-    ensures { IfOk result (λ body. body ≡ body_of_lem (block_view list.now)) }
+    ensures { IfOk result (λ body. body ≡ files.body_of (block_view list.now)) }
 {
     let mut body = Vec::new(alloc);
     let mut blocks = Vec::new(alloc);

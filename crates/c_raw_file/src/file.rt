@@ -1,7 +1,7 @@
 //! Modules and files.
 ghost use Rattle.std.specs.Prelude.{◌≡◌, ◌∷◌, [], IfOk, drop, map, true};
 ghost use Rattle.std.specs.List.{list_all};
-ghost use Rattle.c_tree.specs.FileOf.{file_of as file_of_lem, module_of, modules_of};
+ghost use Rattle.c_tree.specs.FileOf as files;
 ghost use Rattle.c_raw.specs.Views.{descriptor_view, file_view, has_bodies, module_has_bodies, module_view};
 ghost use Rattle.c_raw_file.specs.Parts.{HasLists, module_at};
 
@@ -48,7 +48,7 @@ fn lists(alloc: Global, raw: &RawModule) -> Result<ModuleLists, NoMemory>
 /// A module of this name, with so many ports.
 fn module(alloc: Global, name: Name, ports: u32, raw: &RawModule) -> Result<CModule, NoMemory>
     requires { module_has_bodies raw.now ≡ true }
-    ensures { IfOk result (λ v. v ≡ module_of name ports (module_view raw.now)) }
+    ensures { IfOk result (λ v. v ≡ files.module_of name ports (module_view raw.now)) }
 {
     let functions = functions(alloc, raw.functions.as_list())?;
     let access = access(alloc, raw.access.as_list())?;
@@ -120,7 +120,7 @@ fn modules(
     descriptors: &[RawDescriptor],
 ) -> Result<Items<CModule>, NoMemory>
     requires { list_all module_has_bodies raw.now ≡ true }
-    ensures { IfOk result (λ v. v ≡ modules_of (map module_view raw.now) (map descriptor_view descriptors.now)) }
+    ensures { IfOk result (λ v. v ≡ files.modules_of (map module_view raw.now) (map descriptor_view descriptors.now)) }
 {
     let mut list = Vec::new(alloc);
     for (index, tree) in raw.iter().enumerate() {
@@ -136,7 +136,7 @@ fn modules(
 /// It takes time and memory in proportion to the tree, however deep blocks nest.
 pub fn file_of(alloc: Global, raw: &RawFile) -> Result<CFile, NoMemory>
     requires { has_bodies raw.now ≡ true }
-    ensures { IfOk result (λ f. f ≡ file_of_lem (file_view raw.now)) }
+    ensures { IfOk result (λ f. f ≡ files.file_of (file_view raw.now)) }
 {
     let modules = modules(alloc, raw.modules.as_list(), raw.descriptors.as_list())?;
     Ok(CFile { modules })

@@ -1,18 +1,18 @@
 //! Fields of the structs, and the elements of the tables.
 ghost use Rattle.std.specs.Prelude.{◌≡◌, IfOk, map};
-ghost use Rattle.c_tree.specs.FileOf.{column_of, entry_row, field_row, is_integer as is_integer_lem, node_row, pair_row, param_row};
+ghost use Rattle.c_tree.specs.FileOf as files;
 ghost use Rattle.c_raw.specs.Views.{entry_view, field_view, node_view, pair_view, param_view};
 
 use crate::name::{name, names};
 use alg_laws::Ty;
-use c_form::cell_types::field_name;
+use c_raw::field_names::field_name;
 use c_raw::{RawEntry, RawField, RawNode, RawPair, RawParam};
 use c_tree::{EntryRow, FieldRow, NodeRow, PairRow, ParamRow};
 use std::alloc::{AllocError, Global};
 use va_base::{Items, Name, NoMemory};
 
 fn is_integer(ty: Ty) -> bool
-    ensures { result ≡ is_integer_lem ty }
+    ensures { result ≡ files.is_integer ty }
 {
     match ty {
         Ty::Integer => true,
@@ -22,7 +22,7 @@ fn is_integer(ty: Ty) -> bool
 
 /// A field: its name in C, and its type.
 fn field(alloc: Global, raw: &RawField) -> Result<FieldRow, NoMemory>
-    ensures { IfOk result (λ v. v ≡ field_row (field_view raw.now)) }
+    ensures { IfOk result (λ v. v ≡ files.field_row (field_view raw.now)) }
 {
     let name = field_name(alloc, raw.field.value)?;
     Ok(FieldRow {
@@ -33,7 +33,7 @@ fn field(alloc: Global, raw: &RawField) -> Result<FieldRow, NoMemory>
 
 /// The fields of a struct.
 pub(crate) fn fields(alloc: Global, raw: &[RawField]) -> Result<Items<FieldRow>, NoMemory>
-    ensures { IfOk result (λ v. v ≡ map field_row (map field_view raw.now)) }
+    ensures { IfOk result (λ v. v ≡ map files.field_row (map field_view raw.now)) }
 {
     let mut list = Vec::new(alloc);
     for element in raw {
@@ -43,7 +43,7 @@ pub(crate) fn fields(alloc: Global, raw: &[RawField]) -> Result<Items<FieldRow>,
 }
 
 fn node(alloc: Global, raw: &RawNode) -> Result<NodeRow, AllocError>
-    ensures { IfOk result (λ v. v ≡ node_row (node_view raw.now)) }
+    ensures { IfOk result (λ v. v ≡ files.node_row (node_view raw.now)) }
 {
     let own = name(alloc, &raw.name)?;
     let units = name(alloc, &raw.units)?;
@@ -58,7 +58,7 @@ fn node(alloc: Global, raw: &RawNode) -> Result<NodeRow, AllocError>
 
 /// The elements of the nodes.
 pub(crate) fn nodes(alloc: Global, raw: &[RawNode]) -> Result<Items<NodeRow>, AllocError>
-    ensures { IfOk result (λ v. v ≡ map node_row (map node_view raw.now)) }
+    ensures { IfOk result (λ v. v ≡ map files.node_row (map node_view raw.now)) }
 {
     let mut list = Vec::new(alloc);
     for element in raw {
@@ -69,13 +69,13 @@ pub(crate) fn nodes(alloc: Global, raw: &[RawNode]) -> Result<Items<NodeRow>, Al
 
 /// The second number of an entry's pair.
 fn column(second: Option<u32>) -> u32
-    ensures { result ≡ column_of second }
+    ensures { result ≡ files.column_of second }
 {
     second.unwrap_or(0)
 }
 
 fn entry(raw: &RawEntry) -> EntryRow
-    ensures { result ≡ entry_row (entry_view raw.now) }
+    ensures { result ≡ files.entry_row (entry_view raw.now) }
 {
     EntryRow {
         row: raw.pair.first.value,
@@ -87,7 +87,7 @@ fn entry(raw: &RawEntry) -> EntryRow
 
 /// The elements of the entries.
 pub(crate) fn entries(alloc: Global, raw: &[RawEntry]) -> Result<Items<EntryRow>, AllocError>
-    ensures { IfOk result (λ v. v ≡ map entry_row (map entry_view raw.now)) }
+    ensures { IfOk result (λ v. v ≡ map files.entry_row (map entry_view raw.now)) }
 {
     let mut list = Vec::new(alloc);
     for element in raw {
@@ -97,7 +97,7 @@ pub(crate) fn entries(alloc: Global, raw: &[RawEntry]) -> Result<Items<EntryRow>
 }
 
 fn pair(raw: &RawPair) -> PairRow
-    ensures { result ≡ pair_row (pair_view raw.now) }
+    ensures { result ≡ files.pair_row (pair_view raw.now) }
 {
     PairRow {
         first: raw.first.value,
@@ -107,7 +107,7 @@ fn pair(raw: &RawPair) -> PairRow
 
 /// The elements of the pairs.
 pub(crate) fn pairs(alloc: Global, raw: &[RawPair]) -> Result<Items<PairRow>, AllocError>
-    ensures { IfOk result (λ v. v ≡ map pair_row (map pair_view raw.now)) }
+    ensures { IfOk result (λ v. v ≡ map files.pair_row (map pair_view raw.now)) }
 {
     let mut list = Vec::new(alloc);
     for element in raw {
@@ -117,7 +117,7 @@ pub(crate) fn pairs(alloc: Global, raw: &[RawPair]) -> Result<Items<PairRow>, Al
 }
 
 fn param(alloc: Global, raw: &RawParam) -> Result<ParamRow, AllocError>
-    ensures { IfOk result (λ v. v ≡ param_row (param_view raw.now)) }
+    ensures { IfOk result (λ v. v ≡ files.param_row (param_view raw.now)) }
 {
     let names = names(alloc, raw.names.as_list())?;
     let description = name(alloc, &raw.description)?;
@@ -133,7 +133,7 @@ fn param(alloc: Global, raw: &RawParam) -> Result<ParamRow, AllocError>
 
 /// The elements of the parameters and operating-point variables.
 pub(crate) fn params(alloc: Global, raw: &[RawParam]) -> Result<Items<ParamRow>, AllocError>
-    ensures { IfOk result (λ v. v ≡ map param_row (map param_view raw.now)) }
+    ensures { IfOk result (λ v. v ≡ map files.param_row (map param_view raw.now)) }
 {
     let mut list = Vec::new(alloc);
     for element in raw {

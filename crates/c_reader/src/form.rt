@@ -11,7 +11,7 @@ use c_form::locals::locals_fault;
 use c_form::numbering::numbering_fault;
 use c_form::tables::tables_fault;
 use c_form_reach::reach_fault;
-use c_form_settings::settings::settings_fault;
+use c_form_settings::settings_fault;
 use c_form_types::types_fault;
 use c_raw::RawFile;
 use std::alloc::Global;
@@ -22,7 +22,7 @@ pub fn form_fault(alloc: Global, raw: &RawFile) -> Result<Option<usize>, NoMemor
     requires { has_bodies raw.now ≡ true }
     ensures { IfOk result (λ least. least ≡ least_blamed (file_view raw.now)) }
 {
-    let numbers = numbering_fault(raw);
+    let numbering = numbering_fault(raw);
     let fields = fields_fault(alloc, raw)?;
     let locals = locals_fault(alloc, raw)?;
     let settings = settings_fault(alloc, raw)?;
@@ -31,7 +31,7 @@ pub fn form_fault(alloc: Global, raw: &RawFile) -> Result<Option<usize>, NoMemor
     let calls = calls_fault(alloc, raw)?;
     let reach = reach_fault(alloc, raw)?;
     let tables = tables_fault(alloc, raw)?;
-    let two = earlier(numbers, fields);
+    let two = earlier(numbering, fields);
     let three = earlier(two, locals);
     let four = earlier(three, settings);
     let five = earlier(four, breaks);

@@ -1,6 +1,6 @@
 //! The file that a text spells.
 ghost use Rattle.std.specs.Prelude.{◌≡◌, ◌<◌, ◌-◌, ◌^◌, ℕ, IfOk, IsErrOf, OnOk, length, true};
-ghost use Rattle.c_tree.specs.FileOf.{file_of as file_of_lem};
+ghost use Rattle.c_tree.specs.FileOf as files;
 ghost use Rattle.c_tree.specs.Form.{HasForm, least_blamed};
 ghost use Rattle.c_raw.specs.Views.{file_view, has_bodies};
 ghost use Rattle.c_syntax.specs.Syntax.{IsSpelled, IsSyntaxFault};
@@ -49,7 +49,7 @@ fn keeps_form(alloc: Global, raw: &RawFile) -> Result<(), CErr>
 /// The file of a raw tree.
 fn file(alloc: Global, raw: &RawFile) -> Result<CFile, CErr>
     requires { has_bodies raw.now ≡ true }
-    ensures file { IfOk result (λ f. f ≡ file_of_lem (file_view raw.now)) }
+    ensures file { IfOk result (λ f. f ≡ files.file_of (file_view raw.now)) }
     ensures bad { (at : ℕ) → IsErrOf result (CErr.BadByte at) → ⊥ }
     ensures syntax { (at : ℕ) → IsErrOf result (CErr.Syntax at) → ⊥ }
     ensures form { (at : ℕ) → IsErrOf result (CErr.Form at) → ⊥ }

@@ -1,7 +1,8 @@
 use Rattle.std.proofs.Common.{◌≡◌, arith, drop, []}
 use Rattle.std.proofs.Math.ListN.{drop_of_length-le}
 use Rattle.c_form.specs.OpenBlocks.{innermost_first}
-use Rattle.c_form.proofs.Blaming.{blames_as, blames_none, next-is}
+use Rattle.c_raw.proofs.Elements.{next-is}
+use Rattle.c_form.proofs.Blaming.{blames_as, blames_none}
 use Rattle.c_form.proofs.Open.{breaks-body, breaks-end}
 use Rattle.c_form.proofs.breaks.block.Goals as goal
 

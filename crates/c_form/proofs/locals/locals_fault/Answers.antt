@@ -1,12 +1,5 @@
-use Rattle.std.specs.Prelude.{map}
-use Rattle.std.specs.List.{flat_map}
-use Rattle.c_tree.specs.rules.Bodies.{bodies_of}
-use Rattle.c_tree.specs.rules.Locals.{locals_in_body}
-use Rattle.c_raw.specs.Views.{module_view}
-use Rattle.c_form.proofs.Blaming.{least_is, unnumbered}
+use Rattle.c_form.proofs.Blaming.{least_is}
 use Rattle.c_form.proofs.locals.locals_fault.Goals as goal
 
 pub returns : goal.returns
-returns c =
-    rw (unnumbered (λ m. flat_map (locals_in_body m) (bodies_of m)) 0 (map module_view c.args.raw.now.modules), ← c.as_list.ensures)
-    (least_is c.in_ok-modules.ensures)
+returns c = least_is c.in_ok-in_bodies.ensures

@@ -1,7 +1,7 @@
 use Rattle.std.proofs.Common.{arith}
 use Rattle.std.proofs.Math.ListN.{drop_of_length-le}
 use Rattle.c_tree.specs.rules.Locals.{used_locals}
-use Rattle.c_form.proofs.Blaming.{next-is}
+use Rattle.c_raw.proofs.Elements.{next-is}
 use Rattle.c_form.proofs.Walking.{reached-first, reached-next, reached-blames, reached-knows}
 use Rattle.c_form.proofs.locals.walk.Goals as goal
 

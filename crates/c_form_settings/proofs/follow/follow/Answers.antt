@@ -4,7 +4,7 @@ use Rattle.std.proofs.lemmas.Bool.{eqb-true, eqb-false}
 use Rattle.std.proofs.Math.ListN.{drop_of_length-le}
 use Rattle.c_raw.specs.declared.body.RawStatement.{RawStatement}
 use Rattle.c_form.specs.OpenBlocks.{innermost_first}
-use Rattle.c_form.proofs.Blaming.{next-is}
+use Rattle.c_raw.proofs.Elements.{next-is}
 use Rattle.c_form_settings.specs.declared.duty.Duty.{Duty}
 use Rattle.c_form_settings.specs.declared.duty.Duty.TheVariants.{Unset}
 use Rattle.c_form_settings.specs.Starts.{Follows}

@@ -23,5 +23,5 @@ returns c =
     ▸ c.in_ok-returned.ensures (record { tree = m; body = b; known = known_at_end [] [] list }) (record { types_of = t; locals = c.in_ok-scope.ensures.knows }))
     (items-walked (item_blamed m b) c.args.body.now list c.statements.ensures c.requires.block)
 
-pub walk-requires : goal.walk-requires
-walk-requires c = own-types _ _ _ (c.in_ok-types.ensures c.requires.typed)
+pub all_statements-requires : goal.all_statements-requires
+all_statements-requires c = own-types _ _ _ (c.in_ok-types.ensures c.requires.typed)

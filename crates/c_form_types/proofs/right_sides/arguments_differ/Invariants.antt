@@ -9,6 +9,6 @@ use Rattle.c_form_types.proofs.right_sides.arguments_differ.Given as goal
 -- whatever blames what is left blames it all
 abbrev pub invariant-loop-index : goal.invariant-loop-index
 invariant-loop-index l =
-    (p : Place) → IsAt l.types l.scope p
+    (p : Place) → IsAt l.walk p
     → (new : Option ℕ) → Blames l.least new (arguments_differ p.tree p.body p.known (drop l.index l.all_wanted) (map at_view (drop l.index l.args)))
     → Blames l.fn.least new (arguments_differ p.tree p.body p.known l.all_wanted (map at_view l.args))
