@@ -10,7 +10,7 @@ use va_base::Items;
 
 /// A statement of a body, or the end of a block. The last one of a body is the `End` of its own block, behind which stands
 /// nothing.
-#[derive(Debug, Drop)]
+#[derive(Drop)]
 pub enum RawStatement {
     Simple(RawSimple),
     /// `if ( ! test ) { break ; }`. `at` is the index of its `if`.
@@ -25,7 +25,7 @@ pub enum RawStatement {
 }
 
 /// A statement without blocks. A local stands at its name, and a cell at `inst` or `model`, two tokens before its field's name.
-#[derive(Debug, Drop)]
+#[derive(Drop)]
 pub enum RawSimple {
     /// `const double v1 = .. ;`. `at` is the index of the first token of the right side.
     Constant {
@@ -68,7 +68,7 @@ pub enum RawSimple {
 }
 
 /// The right side of a constant local. Each atom stands at its first token.
-#[derive(Debug, Drop)]
+#[derive(Drop)]
 pub enum RawRight {
     Same(At<CAtom>),
     /// `- v1`

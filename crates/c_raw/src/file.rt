@@ -8,7 +8,7 @@ use c_tree::{CAtom, CCell, CField};
 use va_base::{Items, Name};
 
 /// A C text: its modules in order, the number of descriptors that it writes (`OSDI_NUM_DESCRIPTORS`), and its descriptors.
-#[derive(Debug, Drop)]
+#[derive(Drop)]
 pub struct RawFile {
     pub modules: Items<RawModule>,
     pub num_descriptors: At<u32>,
@@ -16,7 +16,7 @@ pub struct RawFile {
 }
 
 /// A module: its structs, functions and tables.
-#[derive(Debug, Drop)]
+#[derive(Drop)]
 pub struct RawModule {
     /// The module's number in each C name that has one, calls of functions among them, in the order of the text.
     pub numbers: Items<At<u32>>,
@@ -55,7 +55,7 @@ pub struct RawSizes {
 }
 
 /// A function: `static double fn_0_1 ( double a0 , int32_t a1 ) { .. return v1 ; }`.
-#[derive(Debug, Drop)]
+#[derive(Drop)]
 pub struct RawFunction {
     /// The second number of its name, with the index of the name.
     pub number: At<u32>,
@@ -83,7 +83,7 @@ pub struct RawAccess {
 }
 
 /// A descriptor (`OsdiDescriptor`), with the numbers that it writes.
-#[derive(Debug, Drop)]
+#[derive(Drop)]
 pub struct RawDescriptor {
     /// The module's number in each C name, in the order of the text.
     pub numbers: Items<At<u32>>,

@@ -7,7 +7,7 @@ use c_tree::{LoadFactor, LoadFunction, LoadSign, LoadTarget};
 use va_base::Items;
 
 /// The statements of each load function, in the order of the text.
-#[derive(Debug, Drop)]
+#[derive(Drop)]
 pub struct RawLoads {
     pub residual_resist: Items<RawLoad>,
     pub residual_react: Items<RawLoad>,
@@ -37,7 +37,7 @@ impl RawLoads {
 
 /// A statement of a load function: its target stands at `dst` or `*`, and each factor at its first token. Of `* inst -> jr [ 1u ]`
 /// the number stands five tokens behind `*`, and of `dst [ inst -> node [ 1u ] ]` six behind `dst`.
-#[derive(Debug, Drop)]
+#[derive(Drop)]
 pub struct RawLoad {
     pub target: At<LoadTarget>,
     pub sign: LoadSign,

@@ -4,7 +4,7 @@ use c_tree::{CField, ParamKind};
 use va_base::{Items, Name};
 
 /// An element of the nodes (`OsdiNode`), with the two fields whose offsets it names.
-#[derive(Debug, Drop)]
+#[derive(Drop)]
 pub struct RawNode {
     pub name: Name,
     pub units: Name,
@@ -32,7 +32,7 @@ pub struct RawEntry {
 }
 
 /// An element of the parameters (`OsdiParamOpvar`): its own name and its aliases, and their number as it is written.
-#[derive(Debug, Drop)]
+#[derive(Drop)]
 pub struct RawParam {
     pub names: Items<Name>,
     pub num_alias: At<u32>,

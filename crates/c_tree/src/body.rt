@@ -5,7 +5,7 @@ use alg_laws::{Fun1, Fun2, Ty};
 use va_base::{Decimal, Items};
 
 /// A statement of a body. A statement with blocks stands before the statements of its blocks, and tells how many there are.
-#[derive(Debug, Drop)]
+#[derive(Drop)]
 pub enum CStatement {
     Simple(CSimple),
     /// `if ( test ) { .. } else { .. }`: the next `first` statements of the list are the first block, and the `second` ones
@@ -25,7 +25,7 @@ pub enum CStatement {
 }
 
 /// A statement without blocks.
-#[derive(Debug, Drop)]
+#[derive(Drop)]
 pub enum CSimple {
     /// `const double v1 = .. ;`, a local that is never set again.
     Constant { ty: Ty, local: u32, right: CRight },
@@ -44,7 +44,7 @@ pub enum CSimple {
 }
 
 /// The right side of a constant local.
-#[derive(Debug, Drop)]
+#[derive(Drop)]
 pub enum CRight {
     Same(CAtom),
     /// `- v1`

@@ -7,13 +7,13 @@ use alg_laws::Ty;
 use va_base::{Items, Name};
 
 /// A C file: its modules in order. A module's place is the number in its C names.
-#[derive(Debug, Drop)]
+#[derive(Drop)]
 pub struct CFile {
     pub modules: Items<CModule>,
 }
 
 /// A module: its descriptor (`OsdiDescriptor`) with the tables, its two structs and its functions.
-#[derive(Debug, Drop)]
+#[derive(Drop)]
 pub struct CModule {
     pub name: Name,
     /// The unknowns: the ports, the other nodes, and the flows of potential branches.
@@ -39,7 +39,7 @@ pub struct CModule {
 }
 
 /// A function: `static double fn_0_1 ( double a0 , int32_t a1 ) { .. return v1 ; }`.
-#[derive(Debug, Drop)]
+#[derive(Drop)]
 pub struct CFunction {
     pub result: Ty,
     pub arguments: Items<CArgument>,

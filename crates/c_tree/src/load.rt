@@ -18,7 +18,7 @@ pub enum LoadFunction {
 }
 
 /// The statements of each load function.
-#[derive(Debug, Drop)]
+#[derive(Drop)]
 pub struct CLoads {
     pub residual_resist: Items<CLoad>,
     pub residual_react: Items<CLoad>,
@@ -47,7 +47,7 @@ impl CLoads {
 }
 
 /// A statement of a load function: `TARGET += FACTOR * FACTOR ;`, with one factor or more.
-#[derive(Debug, Drop)]
+#[derive(Drop)]
 pub struct CLoad {
     pub target: LoadTarget,
     pub sign: LoadSign,

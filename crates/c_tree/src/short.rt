@@ -2,13 +2,13 @@
 use va_base::Items;
 
 /// A short C file: its modules in order. A module's place is the number in its C names.
-#[derive(Debug, Drop)]
+#[derive(Drop)]
 pub struct ShortFile {
     pub modules: Items<ShortModule>,
 }
 
 /// What one module is printed from.
-#[derive(Debug, Drop)]
+#[derive(Drop)]
 pub struct ShortModule {
     /// How many unknowns there are, and rows: row i belongs to unknown i.
     pub unknowns: u32,

@@ -2,7 +2,7 @@
 use va_base::{Items, Name};
 
 /// An unknown and its row of the equations (`OsdiNode`). Its number is its place in the list.
-#[derive(Debug, Drop)]
+#[derive(Drop)]
 pub struct NodeRow {
     pub name: Name,
     /// The unit of the unknown.
@@ -30,7 +30,7 @@ pub struct PairRow {
 }
 
 /// A parameter or an operating-point variable (`OsdiParamOpvar`). Its id is its place in the list.
-#[derive(Debug, Drop)]
+#[derive(Drop)]
 pub struct ParamRow {
     /// Its own name, and then its aliases.
     pub names: Items<Name>,
@@ -52,7 +52,7 @@ pub enum ParamKind {
 }
 
 /// A field of one of the two structs: its name in C, and whether it is an `int32_t` or a `double`.
-#[derive(Debug, Drop)]
+#[derive(Drop)]
 pub struct FieldRow {
     pub name: Name,
     pub integer: bool,

@@ -21,7 +21,7 @@ use va_preproc::{PreErr, expand};
 use va_report::{fault_line, no_such_file_line, read_fault_line, usage_line};
 
 /// A text, and the status with which a command ends once it is written.
-#[derive(Debug, Drop)]
+#[derive(Drop)]
 pub struct Due {
     pub status: Status,
     pub text: Vec<u8>,

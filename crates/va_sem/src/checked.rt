@@ -16,7 +16,7 @@ use va_tree::{Module, Source};
 
 /// A text without fault of names, types and rules, with what its names mean, the types of its expressions, and of each module
 /// the kinds of its branches and its unknowns. Contracts see it as its source tree.
-#[derive(Debug, Drop)]
+#[derive(Drop)]
 pub struct Checked {
     source: Source,
     names: Names,

@@ -2,7 +2,7 @@
 use va_base::{Items, Name};
 
 /// The names of a text.
-#[derive(Debug, Drop)]
+#[derive(Drop)]
 pub struct Names {
     /// Of each module, in the order of `Source`.
     pub modules: Items<ModuleNames>,
@@ -11,7 +11,7 @@ pub struct Names {
 }
 
 /// The names of a module. A thing's number is its place in its list.
-#[derive(Debug, Drop)]
+#[derive(Drop)]
 pub struct ModuleNames {
     /// The ports in the order of the header, then the other nodes in order of declaration.
     pub nodes: Items<NodeName>,
@@ -31,7 +31,7 @@ pub struct ModuleNames {
 }
 
 /// A node, and the number of its discipline in `Source`.
-#[derive(Debug, Drop)]
+#[derive(Drop)]
 pub struct NodeName {
     pub name: Name,
     pub discipline: u32,
@@ -39,7 +39,7 @@ pub struct NodeName {
 
 /// A branch from a node to a node, or to the reference node where `minus` is missing. A branch without a name is that of its
 /// pair of nodes, in the direction of its first use (Branches, Signal access functions).
-#[derive(Debug, Drop)]
+#[derive(Drop)]
 pub struct BranchName {
     pub plus: u32,
     pub minus: Option<u32>,

@@ -2,7 +2,7 @@
 use va_base::Items;
 
 /// The entries of a module's Jacobian, by row, then by column.
-#[derive(Debug, Drop)]
+#[derive(Drop)]
 pub struct Pattern {
     pub entries: Items<PatternEntry>,
 }
