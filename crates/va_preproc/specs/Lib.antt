@@ -1,3 +1,4 @@
+pub mod Types
 pub mod Lexemes
 pub mod Reading
 pub mod Definitions

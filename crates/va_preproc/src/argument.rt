@@ -1,6 +1,7 @@
 //! The lists of uses of macros (Using a text macro).
 ghost use Rattle.std.specs.Prelude.{◌≡◌, ◌≤◌, ◌<◌, ◌^◌, ℕ, zero, suc, IfOk, length};
-ghost use Rattle.va_preproc.specs.Uses.{opens as opens_lem, closes as closes_lem, part, arguments_form, list_form};
+ghost use Rattle.va_preproc.specs.Uses as macro_uses;
+ghost use Rattle.va_preproc.specs.Uses.{part, arguments_form, list_form};
 ghost use Rattle.va_preproc.specs.Values.{lexeme_in, lexemes_in, part_seen, list_seen};
 
 use crate::role::{is_line_end, is_spelled};
@@ -27,14 +28,14 @@ pub struct ArgumentList<'a> {
 
 /// A token opens a pair of brackets.
 fn opens(files: &[FileText], token: &Token) -> bool
-    ensures { result ≡ opens_lem (lexeme_in files.now token.now) }
+    ensures { result ≡ macro_uses.opens (lexeme_in files.now token.now) }
 {
     is_spelled(files, token, b"(") || is_spelled(files, token, b"[")
 }
 
 /// A token closes a pair of brackets.
 fn closes(files: &[FileText], token: &Token) -> bool
-    ensures { result ≡ closes_lem (lexeme_in files.now token.now) }
+    ensures { result ≡ macro_uses.closes (lexeme_in files.now token.now) }
 {
     is_spelled(files, token, b")") || is_spelled(files, token, b"]")
 }

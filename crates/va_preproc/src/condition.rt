@@ -1,10 +1,11 @@
 //! Conditional text (Conditional compilation): its arms, and what its directives do.
 ghost use Rattle.std.specs.Prelude.{◌≡◌, IfOk, not, reverse, if◌then◌else◌, option_map, Option};
 ghost use Rattle.std.specs.Option.{is_some};
-ghost use Rattle.va_preproc.specs.declared.known.Known.{Known as Known_lem};
-ghost use Rattle.va_preproc.specs.Lexemes.{Lexeme, Bytes, name_of as name_of_lem};
+ghost use Rattle.va_preproc.specs.Types as types;
+ghost use Rattle.va_preproc.specs.Lexemes as lexemes;
+ghost use Rattle.va_preproc.specs.Lexemes.{Lexeme, Bytes};
 ghost use Rattle.va_preproc.specs.Definitions.{next_token};
-ghost use Rattle.va_preproc.specs.Conditionals.{is_skipped as is_skipped_lem, first_arm as first_arm_lem, next_arm as next_arm_lem, at_if as at_if_lem, at_elsif as at_elsif_lem, at_else as at_else_lem, at_endif as at_endif_lem, all_closed as all_closed_lem};
+ghost use Rattle.va_preproc.specs.Conditionals as conditionals;
 ghost use Rattle.va_preproc.specs.Values.{next_read, macros_of, IsOpenBranch, step_of, state_of, names_of, lexeme_in, lexemes_in, onward_seen};
 
 use crate::answer::{Answer, given};
@@ -55,7 +56,7 @@ pub type Branches = SmallVec<Branch, 8>;
 
 /// Text is skipped where the innermost open conditional's arm is.
 pub fn is_skipped(branches: &Branches) -> bool
-    ensures { result ≡ is_skipped_lem (reverse branches.now.items) }
+    ensures { result ≡ conditionals.is_skipped (reverse branches.now.items) }
 {
     match branches.as_slice().last() {
         Some(branch) => match branch.arm {
@@ -69,7 +70,7 @@ pub fn is_skipped(branches: &Branches) -> bool
 
 /// The first arm, in skipped text or not, by its condition.
 fn first_arm(skipped: bool, condition: bool) -> Arm
-    ensures { result ≡ first_arm_lem skipped condition }
+    ensures { result ≡ conditionals.first_arm skipped condition }
 {
     match (skipped, condition) {
         (true, _) => Arm::Passed,
@@ -80,7 +81,7 @@ fn first_arm(skipped: bool, condition: bool) -> Arm
 
 /// The arm after this one, by its condition.
 fn next_arm(arm: Arm, condition: bool) -> Arm
-    ensures { result ≡ next_arm_lem arm condition }
+    ensures { result ≡ conditionals.next_arm arm condition }
 {
     match (arm, condition) {
         (Arm::Waiting, true) => Arm::Chosen,
@@ -99,7 +100,7 @@ pub fn read_next<'a>(
     rest: &[Token],
     meaning: Option<&'a [u8]>,
 ) -> Result<&'a [u8], Fault>
-    ensures { (k : Known_lem) (read : Lexeme → Option Bytes)
+    ensures { (k : types.Known) (read : Lexeme → Option Bytes)
         → option_map (λ name. name.now) meaning.entry ≡ (next_token read (lexemes_in k.files.items rest.now)).meaning
         → next_read read code (lexeme_in k.files.items token.now) (lexemes_in k.files.items rest.now) (state_of k progress.old)
         ≡ step_of (λ name. (name.now, state_of k progress.new)) (names_of k) result }
@@ -115,7 +116,7 @@ pub fn read_next<'a>(
 
 /// The name that the first of some tokens is, if it is one.
 fn first_name<'a>(files: &'a [FileText], tokens: &[Token]) -> Option<&'a [u8]>
-    ensures { option_map (λ name. name.now) result ≡ (next_token name_of_lem (lexemes_in files.now tokens.now)).meaning }
+    ensures { option_map (λ name. name.now) result ≡ (next_token lexemes.name_of (lexemes_in files.now tokens.now)).meaning }
 {
     match tokens.first() {
         Some(token) => name_of(files, token),
@@ -147,7 +148,7 @@ pub fn at_if(
     rest: &[Token],
 ) -> Answer<usize>
     ensures { IfOk result (λ answer.
-        at_if_lem (if negated then not else (λ defined. defined)) (lexeme_in known.now.files.items token.now)
+        conditionals.at_if (if negated then not else (λ defined. defined)) (lexeme_in known.now.files.items token.now)
         (lexemes_in known.now.files.items rest.now) (reverse branches.old.items) (state_of known.now progress.old)
         ≡ step_of (onward_seen known.now progress.new branches.new) (names_of known.now) answer) }
 {
@@ -172,7 +173,7 @@ pub fn at_elsif(
     rest: &[Token],
 ) -> Answer<usize>
     ensures { IfOk result (λ answer.
-        at_elsif_lem (lexeme_in known.now.files.items token.now)
+        conditionals.at_elsif (lexeme_in known.now.files.items token.now)
         (lexemes_in known.now.files.items rest.now) (reverse branches.old.items) (state_of known.now progress.old)
         ≡ step_of (onward_seen known.now progress.new branches.new) (names_of known.now) answer) }
 {
@@ -186,7 +187,7 @@ pub fn at_elsif(
 
 /// The innermost open conditional, which had no `else`. It is taken from the others.
 fn open_branch(progress: &Progress, branches: &mut Branches, token: &Token) -> Result<Branch, Fault>
-    ensures { (k : Known_lem) → IsOpenBranch (lexeme_in k.files.items token.now) (state_of k progress.now) (names_of k)
+    ensures { (k : types.Known) → IsOpenBranch (lexeme_in k.files.items token.now) (state_of k progress.now) (names_of k)
         (reverse branches.old.items) (reverse branches.new.items) result }
 {
     let Some(branch) = branches.pop() else {
@@ -200,8 +201,8 @@ fn open_branch(progress: &Progress, branches: &mut Branches, token: &Token) -> R
 
 /// `else`. No token after it was read.
 pub fn at_else(progress: &Progress, branches: &mut Branches, token: &Token) -> Answer<usize>
-    ensures { (k : Known_lem) → IfOk result (λ answer.
-        at_else_lem (lexeme_in k.files.items token.now) (reverse branches.old.items) (state_of k progress.now)
+    ensures { (k : types.Known) → IfOk result (λ answer.
+        conditionals.at_else (lexeme_in k.files.items token.now) (reverse branches.old.items) (state_of k progress.now)
         ≡ step_of (onward_seen k progress.now branches.new) (names_of k) answer) }
 {
     let branch = given!(open_branch(progress, branches, token));
@@ -215,8 +216,8 @@ pub fn at_else(progress: &Progress, branches: &mut Branches, token: &Token) -> A
 
 /// `endif`. No token after it was read.
 pub fn at_endif(progress: &Progress, branches: &mut Branches, token: &Token) -> Result<usize, Fault>
-    ensures { (k : Known_lem) →
-        at_endif_lem (lexeme_in k.files.items token.now) (reverse branches.old.items) (state_of k progress.now)
+    ensures { (k : types.Known) →
+        conditionals.at_endif (lexeme_in k.files.items token.now) (reverse branches.old.items) (state_of k progress.now)
         ≡ step_of (onward_seen k progress.now branches.new) (names_of k) result }
 {
     let Some(_) = branches.pop() else {
@@ -227,8 +228,8 @@ pub fn at_endif(progress: &Progress, branches: &mut Branches, token: &Token) -> 
 
 /// At the end of a file the innermost open conditional is a fault.
 pub fn all_closed(progress: &Progress, branches: &Branches) -> Result<(), Fault>
-    ensures { (k : Known_lem) →
-        all_closed_lem (reverse branches.now.items) (state_of k progress.now)
+    ensures { (k : types.Known) →
+        conditionals.all_closed (reverse branches.now.items) (state_of k progress.now)
         ≡ step_of (λ u. state_of k progress.now) (names_of k) result }
 {
     match branches.as_slice().last() {

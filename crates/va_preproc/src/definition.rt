@@ -1,8 +1,9 @@
 //! Definitions of macros (`define and `undef).
 ghost use Rattle.std.specs.Prelude.{◌≡◌, ◌≤◌, ◌<◌, ◌+◌, ◌^◌, IfOk, List, length, take, drop, map, option_map, Some, [], codes, ◌&&◌, ◌==◌};
-ghost use Rattle.va_base.specs.declared.file.FileText.{FileText as FileText_lem};
-ghost use Rattle.va_preproc.specs.Lexemes.{name_of as name_of_lem, is_among as is_among_lem, is_spelled as is_spelled_lem};
-ghost use Rattle.va_preproc.specs.Definitions.{line, macro_name as macro_name_lem, file_name as file_name_lem, next_token, new_name_as, separator as separator_lem, formals_form, follows_directly as follows_directly_lem, after_formals, body_form, after_name as after_name_lem, definition_form};
+ghost use Rattle.va_preproc.specs.Types as types;
+ghost use Rattle.va_preproc.specs.Lexemes as lexemes;
+ghost use Rattle.va_preproc.specs.Definitions as definitions;
+ghost use Rattle.va_preproc.specs.Definitions.{line, next_token, new_name_as, formals_form, after_formals, body_form, definition_form};
 ghost use Rattle.va_preproc.specs.Values.{lexeme_in, lexemes_in, formals_seen, definition_seen, separator_seen};
 
 use crate::known::FormalNames;
@@ -37,7 +38,7 @@ pub enum Separator {
 
 /// How many tokens stand before the line's end.
 pub fn line_len(tokens: &[Token]) -> usize
-    ensures line { (files : List FileText_lem) → line (lexemes_in files tokens.now) ≡ lexemes_in files (take result tokens.now) }
+    ensures line { (files : List types.FileText) → line (lexemes_in files tokens.now) ≡ lexemes_in files (take result tokens.now) }
     ensures within { result ≤ length tokens.now }
 {
     for (at, token) in tokens.iter().enumerate() {
@@ -50,7 +51,7 @@ pub fn line_len(tokens: &[Token]) -> usize
 
 /// The name that a token is, if it is one that no directive has.
 pub fn macro_name<'a>(files: &'a [FileText], token: &Token) -> Option<&'a [u8]>
-    ensures { option_map (λ name. name.now) result ≡ macro_name_lem (lexeme_in files.now token.now) }
+    ensures { option_map (λ name. name.now) result ≡ definitions.macro_name (lexeme_in files.now token.now) }
 {
     match name_of(files, token) {
         Some(name) => match directive_named(name) {
@@ -63,7 +64,7 @@ pub fn macro_name<'a>(files: &'a [FileText], token: &Token) -> Option<&'a [u8]>
 
 /// The macro's name that the first of some tokens is, if it is one.
 pub fn first_macro_name<'a>(files: &'a [FileText], tokens: &[Token]) -> Option<&'a [u8]>
-    ensures { option_map (λ name. name.now) result ≡ (next_token macro_name_lem (lexemes_in files.now tokens.now)).meaning }
+    ensures { option_map (λ name. name.now) result ≡ (next_token definitions.macro_name (lexemes_in files.now tokens.now)).meaning }
 {
     match tokens.first() {
         Some(token) => macro_name(files, token),
@@ -73,7 +74,7 @@ pub fn first_macro_name<'a>(files: &'a [FileText], tokens: &[Token]) -> Option<&
 
 /// A string's content, where it is UTF-8.
 fn file_name<'a>(files: &'a [FileText], token: &Token) -> Option<&'a str>
-    ensures { option_map (λ name. name.now) result ≡ file_name_lem (lexeme_in files.now token.now) }
+    ensures { option_map (λ name. name.now) result ≡ definitions.file_name (lexeme_in files.now token.now) }
 {
     match content_of(files, token) {
         Some(content) => match str::from_utf8(content) {
@@ -86,7 +87,7 @@ fn file_name<'a>(files: &'a [FileText], token: &Token) -> Option<&'a str>
 
 /// The file's name that the first of some tokens is, if it is one.
 pub fn first_file_name<'a>(files: &'a [FileText], tokens: &[Token]) -> Option<&'a str>
-    ensures { option_map (λ name. name.now) result ≡ (next_token file_name_lem (lexemes_in files.now tokens.now)).meaning }
+    ensures { option_map (λ name. name.now) result ≡ (next_token definitions.file_name (lexemes_in files.now tokens.now)).meaning }
 {
     match tokens.first() {
         Some(token) => file_name(files, token),
@@ -96,7 +97,7 @@ pub fn first_file_name<'a>(files: &'a [FileText], tokens: &[Token]) -> Option<&'
 
 /// A name is among some names.
 fn has_name(names: &FormalNames, name: &[u8]) -> bool
-    ensures { result ≡ is_among_lem (map (λ other. other.items) names.now.keys) name.now }
+    ensures { result ≡ lexemes.is_among (map (λ other. other.items) names.now.keys) name.now }
 {
     names.contains(name)
 }
@@ -104,7 +105,7 @@ fn has_name(names: &FormalNames, name: &[u8]) -> bool
 /// The name that a token is, if it is one and none of these.
 fn new_name<'a>(files: &'a [FileText], token: &Token, seen: &FormalNames) -> Option<&'a [u8]>
     ensures { option_map (λ name. name.now) result
-        ≡ new_name_as (map (λ other. other.items) seen.now.keys) (name_of_lem (lexeme_in files.now token.now)) }
+        ≡ new_name_as (map (λ other. other.items) seen.now.keys) (lexemes.name_of (lexeme_in files.now token.now)) }
 {
     match name_of(files, token) {
         Some(name) => {
@@ -120,7 +121,7 @@ fn new_name<'a>(files: &'a [FileText], token: &Token, seen: &FormalNames) -> Opt
 
 /// What a token is after a formal.
 fn separator_of(files: &[FileText], token: &Token) -> Separator
-    ensures { separator_seen result ≡ separator_lem (lexeme_in files.now token.now) }
+    ensures { separator_seen result ≡ definitions.separator (lexeme_in files.now token.now) }
 {
     if is_spelled(files, token, b",") {
         return Separator::Comma;
@@ -177,8 +178,8 @@ fn follows_directly(token: &Token, next: &Token) -> bool
 
 /// A list of formals begins with the token after a macro's name.
 fn opens_formals(files: &[FileText], token: &Token, next: &Token) -> bool
-    ensures { result ≡ (is_spelled_lem (codes "(") (lexeme_in files.now next.now)
-        && follows_directly_lem (lexeme_in files.now token.now) (lexeme_in files.now next.now)) }
+    ensures { result ≡ (lexemes.is_spelled (codes "(") (lexeme_in files.now next.now)
+        && definitions.follows_directly (lexeme_in files.now token.now) (lexeme_in files.now next.now)) }
 {
     is_spelled(files, next, b"(") && follows_directly(token, next)
 }
@@ -213,7 +214,7 @@ fn with_body<'a>(
     rest: &'a [Token],
 ) -> Definition<'a>
     requires { taken + length rest.now < 2 ^ 64 }
-    ensures { (files : List FileText_lem) → definition_seen files result
+    ensures { (files : List types.FileText) → definition_seen files result
         ≡ body_form name.now (option_map (λ formals. map (λ formal. formal.items) formals.keys) formals) taken (lexemes_in files rest.now) }
 {
     let len = line_len(rest);
@@ -234,15 +235,14 @@ fn after_name<'a>(
     rest: &'a [Token],
 ) -> Result<Definition<'a>, NoMemory>
     ensures { IfOk result (λ d. definition_seen files.now d
-        ≡ after_name_lem (lexeme_in files.now token.now) (lexemes_in files.now rest.now) (Some name.now)) }
+        ≡ definitions.after_name (lexeme_in files.now token.now) (lexemes_in files.now rest.now) (Some name.now)) }
 {
     if rest.is_empty() {
         return Ok(with_body(1, name, None, rest));
     }
     let next = &rest[0];
     if opens_formals(files, token, next) {
-        let definition = with_formals(alloc, files, name, &rest[1..])?;
-        return Ok(definition);
+        return with_formals(alloc, files, name, &rest[1..]);
     }
     Ok(with_body(1, name, None, rest))
 }
@@ -272,6 +272,5 @@ pub fn definition_in<'a>(
             body: &[],
         });
     };
-    let definition = after_name(alloc, files, token, name, &tokens[1..])?;
-    Ok(definition)
+    after_name(alloc, files, token, name, &tokens[1..])
 }

@@ -2,7 +2,8 @@
 ghost use Rattle.std.specs.Prelude.{◌≡◌, ◌≤◌, ◌<◌, ◌^◌, ◌-◌, ◌+◌, ◌++◌, ◌∷◌, [], length, IfOk, None, Some, slice_get};
 ghost use Rattle.va_base.specs.Expansion.{IsExpanded};
 ghost use Rattle.va_io.specs.Outside.{Holdings, Rose};
-ghost use Rattle.va_preproc.specs.Expansion.{expansion, end_token as end_token_lem, last_place as last_place_lem, start_macros};
+ghost use Rattle.va_preproc.specs.Expansion as file_steps;
+ghost use Rattle.va_preproc.specs.Expansion.{expansion, start_macros};
 ghost use Rattle.va_preproc.specs.Values.{macros_of, names_of};
 ghost use Rattle.va_preproc.specs.Steps.{limits_of, AreSmall, IsRefused, IsBrokenOff};
 ghost use Rattle.va_preproc.specs.Answers.{IsAnswer, IsAnswerWithin, IsSettled, seen};
@@ -144,7 +145,7 @@ fn start_progress(alloc: Global, limits: &Limits) -> Progress
 /// The place after a text's last byte.
 fn last_place(bytes: &[u8]) -> Place
     requires { length bytes.now < 2 ^ 32 - 1 }
-    ensures { result ≡ last_place_lem 0 bytes.now }
+    ensures { result ≡ file_steps.last_place 0 bytes.now }
 {
     let mut line = 1;
     let mut col = 1;
@@ -162,7 +163,7 @@ fn last_place(bytes: &[u8]) -> Place
 /// The end of a main file.
 fn end_token(bytes: &[u8]) -> Token
     requires { length bytes.now < 2 ^ 32 - 1 }
-    ensures { result ≡ end_token_lem bytes.now }
+    ensures { result ≡ file_steps.end_token bytes.now }
 {
     Token {
         kind: TokenKind::End,
@@ -178,7 +179,7 @@ fn finished(known: Known, progress: Progress) -> Result<Expanded, NoMemory>
     requires some { 0 < length known.files.items }
     requires small { AreSmall (2 ^ 32 - 2) 0 known.files.items }
     ensures tokens { IfOk result (λ e. (first : _) × (slice_get known.files.items 0 ≡ Some first)
-        × (e.tokens ≡ progress.result.items ++ end_token_lem first.bytes ∷ [])) }
+        × (e.tokens ≡ progress.result.items ++ file_steps.end_token first.bytes ∷ [])) }
     ensures files { IfOk result (λ e. e.files ≡ known.files.items) }
 {
     let end = end_token(known.files[0].bytes.as_list());

@@ -1,11 +1,12 @@
 //! The files of an expansion: how they are read, and what their tokens do.
 ghost use Rattle.std.specs.Prelude.{◌≡◌, ◌<◌, ◌≤◌, ◌^◌, ◌-◌, ◌+◌, ◌++◌, ◌∷◌, [], length, take, IfOk, OnOk, Some, reverse, slice_get, string_bytes, vec_len, vec_capacity, true, option_map, ◌&&◌, not};
 ghost use Rattle.va_base.specs.declared.fault.FaultCode.TheVariants.{Directive as directive_code};
-ghost use Rattle.va_preproc.specs.declared.known.Known.{Known as Known_lem};
-ghost use Rattle.va_preproc.specs.Lexemes.{role_of as role_of_lem};
-ghost use Rattle.va_preproc.specs.Definitions.{file_name as file_name_lem, next_token};
-ghost use Rattle.va_preproc.specs.Conditionals.{is_skipped as is_skipped_lem};
-ghost use Rattle.va_preproc.specs.Expansion.{first_place as first_place_lem, folder as folder_lem, included_name as included_name_lem};
+ghost use Rattle.va_preproc.specs.Types as types;
+ghost use Rattle.va_preproc.specs.Lexemes as lexemes;
+ghost use Rattle.va_preproc.specs.Definitions as definitions;
+ghost use Rattle.va_preproc.specs.Definitions.{next_token};
+ghost use Rattle.va_preproc.specs.Conditionals as conditionals;
+ghost use Rattle.va_preproc.specs.Expansion as file_steps;
 ghost use Rattle.va_preproc.specs.Values.{next_read, step_of, state_of, names_of, lexeme_in, lexemes_in, onward_seen, is_include_by};
 ghost use Rattle.va_preproc.specs.Steps.{limits_of, world, Asks, HasCause, Follows, last_of, AreWithin, IsFit, IfGiven, itself, at_onward, includes_by, expand_read, token_step, file_step};
 
@@ -45,7 +46,7 @@ pub fn add_file(known: &mut Known, name: Name, bytes: Vec<u8>)
 
 /// The place at which a file begins.
 fn place_of(file: u32) -> Place
-    ensures { result ≡ first_place_lem file }
+    ensures { result ≡ file_steps.first_place file }
 {
     Place {
         file,
@@ -185,8 +186,8 @@ fn expand_token<F: Files>(
 
 /// A token is an include in text that isn't skipped.
 fn is_include(known: &Known, branches: &Branches, token: &Token) -> bool
-    ensures { result ≡ (is_include_by (role_of_lem (lexeme_in known.now.files.items token.now))
-        && not (is_skipped_lem (reverse branches.now.items))) }
+    ensures { result ≡ (is_include_by (lexemes.role_of (lexeme_in known.now.files.items token.now))
+        && not (conditionals.is_skipped (reverse branches.now.items))) }
 {
     match role_of(known.files.as_slice(), token) {
         Role::Directive(Directive::Include) => !is_skipped(branches),
@@ -205,8 +206,8 @@ fn at_include<F: Files>(
     token: &Token,
     rest: &[Token],
 ) -> FileAnswer<usize>
-    requires include { (is_include_by (role_of_lem (lexeme_in known.old.files.items token.now))
-        && not (is_skipped_lem (reverse branches.now.items))) ≡ true }
+    requires include { (is_include_by (lexemes.role_of (lexeme_in known.old.files.items token.now))
+        && not (conditionals.is_skipped (reverse branches.now.items))) ≡ true }
     requires fit { IsFit open.now.limits.bytes 0 known.old progress.old }
     ensures asks { Asks open.now.limits.bytes
         (world (F.holds files.old) (F.asked files.old) (F.faults files.old))
@@ -243,8 +244,8 @@ fn read_file_name<'a>(
     rest: &[Token],
     meaning: Option<&'a str>,
 ) -> Result<&'a str, Fault>
-    ensures { (k : Known_lem) → option_map (λ name. name.now) meaning.entry ≡ (next_token file_name_lem (lexemes_in k.files.items rest.now)).meaning
-        → next_read file_name_lem directive_code (lexeme_in k.files.items token.now) (lexemes_in k.files.items rest.now) (state_of k progress.old)
+    ensures { (k : types.Known) → option_map (λ name. name.now) meaning.entry ≡ (next_token definitions.file_name (lexemes_in k.files.items rest.now)).meaning
+        → next_read definitions.file_name directive_code (lexeme_in k.files.items token.now) (lexemes_in k.files.items rest.now) (state_of k progress.old)
         ≡ step_of (λ name. (name.now, state_of k progress.new)) (names_of k) result }
 {
     if let Err(fault) = read_own(progress, rest, 1) {
@@ -258,7 +259,7 @@ fn read_file_name<'a>(
 
 /// How long a file's name is up to and including its last `/`.
 fn folder_len(name: &[u8]) -> usize
-    ensures folder { folder_lem name.now ≡ take result name.now }
+    ensures folder { file_steps.folder name.now ≡ take result name.now }
     ensures within { result ≤ length name.now }
 {
     let mut len = name.len();
@@ -270,7 +271,7 @@ fn folder_len(name: &[u8]) -> usize
 
 /// The name of an included file, by that of the including one and the string.
 fn included_name(alloc: Global, including: &str, file: &str) -> Result<String, NoMemory>
-    ensures { IfOk result (λ name. string_bytes name ≡ included_name_lem including.now file.now) }
+    ensures { IfOk result (λ name. string_bytes name ≡ file_steps.included_name including.now file.now) }
 {
     let bytes = included_bytes(alloc, including.as_bytes(), file.as_bytes())?;
     match String::from_utf8(bytes) {
@@ -281,7 +282,7 @@ fn included_name(alloc: Global, including: &str, file: &str) -> Result<String, N
 
 /// The same in bytes.
 fn included_bytes(alloc: Global, including: &[u8], file: &[u8]) -> Result<Vec<u8>, NoMemory>
-    ensures { IfOk result (λ name. name.items ≡ included_name_lem including.now file.now) }
+    ensures { IfOk result (λ name. name.items ≡ file_steps.included_name including.now file.now) }
 {
     let mut name = Vec::new(alloc);
     if file.first() != Some(&b'/') {

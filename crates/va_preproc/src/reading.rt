@@ -2,7 +2,8 @@
 ghost use Rattle.std.specs.Prelude.{◌≡◌, length, None, IfOk};
 ghost use Rattle.va_base.specs.declared.fault.Phase.TheVariants.{Expand};
 ghost use Rattle.va_preproc.specs.declared.known.Known.{Known};
-ghost use Rattle.va_preproc.specs.Reading.{read_one as read_one_lem, read_some, give_where, give as give_lem, give_all as give_all_lem, own_place};
+ghost use Rattle.va_preproc.specs.Reading as token_steps;
+ghost use Rattle.va_preproc.specs.Reading.{read_some, give_where, own_place};
 ghost use Rattle.va_preproc.specs.Values.{step_of, state_of, names_of, lexeme_in, lexemes_in};
 
 use crate::answer::{Answer, given};
@@ -23,7 +24,7 @@ pub fn fault_at(progress: &Progress, code: FaultCode, place: Place) -> Fault
 
 /// One token is read, which is blamed at a place.
 pub fn read_one(progress: &mut Progress, place: Place) -> Result<(), Fault>
-    ensures { (k : Known) → read_one_lem place (state_of k progress.old) ≡ step_of (λ u. state_of k progress.new) (names_of k) result }
+    ensures { (k : Known) → token_steps.read_one place (state_of k progress.old) ≡ step_of (λ u. state_of k progress.new) (names_of k) result }
 {
     if progress.unread == 0 {
         return Err(fault_at(progress, FaultCode::TokensMany, place));
@@ -87,7 +88,7 @@ fn give_to_result(progress: &mut Progress, place: Place, token: &Token) -> Answe
 /// A token is given to the argument that is expanded, or else to the result, where it has the place.
 pub fn give(progress: &mut Progress, place: Place, token: &Token) -> Answer<()>
     ensures { (k : Known) → IfOk result (λ answer.
-        give_lem place (lexeme_in k.files.items token.now) (state_of k progress.old)
+        token_steps.give place (lexeme_in k.files.items token.now) (state_of k progress.old)
         ≡ step_of (λ u. state_of k progress.new) (names_of k) answer) }
 {
     let Some(mut given) = progress.argument.take() else {
@@ -102,7 +103,7 @@ pub fn give(progress: &mut Progress, place: Place, token: &Token) -> Answer<()>
 /// Tokens that a formal gives: each is read and given.
 pub fn give_all(progress: &mut Progress, place: Place, tokens: &[Token]) -> Answer<()>
     ensures { (k : Known) → IfOk result (λ answer.
-        give_all_lem place (lexemes_in k.files.items tokens.now) (state_of k progress.old)
+        token_steps.give_all place (lexemes_in k.files.items tokens.now) (state_of k progress.old)
         ≡ step_of (λ u. state_of k progress.new) (names_of k) answer) }
 {
     for token in tokens {

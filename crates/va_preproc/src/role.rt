@@ -3,8 +3,9 @@ ghost use Rattle.std.specs.Prelude.{◌≡◌, option_map, List, take, drop};
 ghost use Rattle.std.specs.List.{list_any};
 ghost use Rattle.std.specs.Str.{bytes_eq};
 ghost use Rattle.va_base.specs.Expansion.{token_bytes};
-ghost use Rattle.va_base.specs.declared.file.FileText.{FileText as FileText_lem};
-ghost use Rattle.va_preproc.specs.Lexemes.{directives, directive_of, unescaped as unescaped_lem, tick_role as tick_role_lem, role_of as role_of_lem, name_of as name_of_lem, content_of as content_of_lem, is_line_end as is_line_end_lem, is_spelled as is_spelled_lem};
+ghost use Rattle.va_preproc.specs.Types as types;
+ghost use Rattle.va_preproc.specs.Lexemes as lexemes;
+ghost use Rattle.va_preproc.specs.Lexemes.{directives, directive_of};
 ghost use Rattle.va_preproc.specs.Values.{lexeme_in, role_seen};
 
 use crate::directive::Directive;
@@ -53,7 +54,7 @@ fn without_first(bytes: &[u8]) -> &[u8]
 
 /// A word without the `\` of its second form.
 fn unescaped(word: &[u8]) -> &[u8]
-    ensures { result.now ≡ unescaped_lem word.now }
+    ensures { result.now ≡ lexemes.unescaped word.now }
 {
     match word {
         [b'\\', rest @ ..] => rest,
@@ -112,7 +113,7 @@ fn is_ignored(name: &[u8]) -> bool
 
 /// What a token is to the expansion.
 pub fn role_of<'a>(files: &'a [FileText], token: &Token) -> Role<'a>
-    ensures { role_seen result ≡ role_of_lem (lexeme_in files.now token.now) }
+    ensures { role_seen result ≡ lexemes.role_of (lexeme_in files.now token.now) }
 {
     match token.kind {
         TokenKind::Word => Role::Name(unescaped(bytes_of(files, token))),
@@ -124,7 +125,7 @@ pub fn role_of<'a>(files: &'a [FileText], token: &Token) -> Role<'a>
 
 /// A backquote with a name: a directive, or else a use of a macro.
 fn tick_role(bytes: &[u8]) -> Role<'_>
-    ensures { role_seen result ≡ tick_role_lem (directive_of (drop 1 bytes.now)) (drop 1 bytes.now) }
+    ensures { role_seen result ≡ lexemes.tick_role (directive_of (drop 1 bytes.now)) (drop 1 bytes.now) }
 {
     let name = without_first(bytes);
     match directive_named(name) {
@@ -135,7 +136,7 @@ fn tick_role(bytes: &[u8]) -> Role<'_>
 
 /// The name that a token is, if it is one.
 pub fn name_of<'a>(files: &'a [FileText], token: &Token) -> Option<&'a [u8]>
-    ensures { option_map (λ name. name.now) result ≡ name_of_lem (lexeme_in files.now token.now) }
+    ensures { option_map (λ name. name.now) result ≡ lexemes.name_of (lexeme_in files.now token.now) }
 {
     match role_of(files, token) {
         Role::Name(name) => Some(name),
@@ -145,7 +146,7 @@ pub fn name_of<'a>(files: &'a [FileText], token: &Token) -> Option<&'a [u8]>
 
 /// A token is the end of a line.
 pub fn is_line_end(token: &Token) -> bool
-    ensures { (files : List FileText_lem) → result ≡ is_line_end_lem (lexeme_in files token.now) }
+    ensures { (files : List types.FileText) → result ≡ lexemes.is_line_end (lexeme_in files token.now) }
 {
     match token.kind {
         TokenKind::Newline => true,
@@ -155,7 +156,7 @@ pub fn is_line_end(token: &Token) -> bool
 
 /// What stands between the quotes of a string.
 pub fn content_of<'a>(files: &'a [FileText], token: &Token) -> Option<&'a [u8]>
-    ensures { option_map (λ content. content.now) result ≡ content_of_lem (lexeme_in files.now token.now) }
+    ensures { option_map (λ content. content.now) result ≡ lexemes.content_of (lexeme_in files.now token.now) }
 {
     if token.kind != TokenKind::Text {
         return None;
@@ -166,7 +167,7 @@ pub fn content_of<'a>(files: &'a [FileText], token: &Token) -> Option<&'a [u8]>
 
 /// These bytes spell a token.
 pub fn is_spelled(files: &[FileText], token: &Token, bytes: &[u8]) -> bool
-    ensures { result ≡ is_spelled_lem bytes.now (lexeme_in files.now token.now) }
+    ensures { result ≡ lexemes.is_spelled bytes.now (lexeme_in files.now token.now) }
 {
     bytes_of(files, token) == bytes
 }

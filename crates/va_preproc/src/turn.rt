@@ -1,12 +1,12 @@
 //! The tokens of a file, but for its includes.
 ghost use Rattle.std.specs.Prelude.{◌≡◌, IfOk, List, reverse, length, ◌&&◌, not, false};
-ghost use Rattle.va_preproc.specs.declared.condition.Branch.{Branch as Branch_lem};
-ghost use Rattle.va_preproc.specs.declared.known.Known.{Known as Known_lem};
-ghost use Rattle.va_preproc.specs.declared.directive.Directive.{Directive as Directive_lem};
-ghost use Rattle.va_preproc.specs.Lexemes.{Bytes, Role as Role_lem, a_directive, role_of as role_of_lem};
-ghost use Rattle.va_preproc.specs.Conditionals.{is_skipped as is_skipped_lem};
+ghost use Rattle.va_preproc.specs.Types as types;
+ghost use Rattle.va_preproc.specs.Lexemes as lexemes;
+ghost use Rattle.va_preproc.specs.Lexemes.{Bytes, a_directive};
+ghost use Rattle.va_preproc.specs.Conditionals as conditionals;
 ghost use Rattle.va_preproc.specs.Uses.{Use, use_within};
-ghost use Rattle.va_preproc.specs.Expansion.{Included, at_define as at_define_lem, at_undef as at_undef_lem, at_ignored as at_ignored_lem, at_directive as at_directive_lem, at_outermost as at_outermost_lem, at_token as at_token_lem};
+ghost use Rattle.va_preproc.specs.Expansion as file_steps;
+ghost use Rattle.va_preproc.specs.Expansion.{Included};
 ghost use Rattle.va_preproc.specs.Values.{step_of, state_of, names_of, lexeme_in, lexemes_in, onward_seen, onward_same, is_include_by};
 ghost use Rattle.va_preproc.specs.Steps.{IsWithin, AreWithin};
 
@@ -29,8 +29,8 @@ fn at_define(
     token: &Token,
     rest: &[Token],
 ) -> Answer<usize>
-    ensures follows { (u : Use) (i : Included) (n : Bytes) (b : List Branch_lem) → IfOk result (λ answer.
-        at_define_lem u i n (lexeme_in known.old.files.items token.now) (lexemes_in known.old.files.items rest.now) b
+    ensures follows { (u : Use) (i : Included) (n : Bytes) (b : List types.Branch) → IfOk result (λ answer.
+        file_steps.at_define u i n (lexeme_in known.old.files.items token.now) (lexemes_in known.old.files.items rest.now) b
         (state_of known.old progress.old)
         ≡ step_of (onward_same known.new progress.new b) (names_of known.old) answer) }
     ensures files { known.new.files ≡ known.old.files }
@@ -57,8 +57,8 @@ fn at_undef(
     token: &Token,
     rest: &[Token],
 ) -> Answer<usize>
-    ensures follows { (u : Use) (i : Included) (n : Bytes) (b : List Branch_lem) → IfOk result (λ answer.
-        at_undef_lem u i n (lexeme_in known.old.files.items token.now) (lexemes_in known.old.files.items rest.now) b
+    ensures follows { (u : Use) (i : Included) (n : Bytes) (b : List types.Branch) → IfOk result (λ answer.
+        file_steps.at_undef u i n (lexeme_in known.old.files.items token.now) (lexemes_in known.old.files.items rest.now) b
         (state_of known.old progress.old)
         ≡ step_of (onward_same known.new progress.new b) (names_of known.old) answer) }
     ensures files { known.new.files ≡ known.old.files }
@@ -72,8 +72,8 @@ fn at_undef(
 
 /// A directive without effect, which is read to the end of its line. It tells how many tokens that were.
 fn at_ignored(progress: &mut Progress, rest: &[Token]) -> Answer<usize>
-    ensures { (k : Known_lem) (u : Use) (i : Included) (n : Bytes) (b : List Branch_lem) → IfOk result (λ answer.
-        at_ignored_lem u i n (lexemes_in k.files.items rest.now) b (state_of k progress.old)
+    ensures { (k : types.Known) (u : Use) (i : Included) (n : Bytes) (b : List types.Branch) → IfOk result (λ answer.
+        file_steps.at_ignored u i n (lexemes_in k.files.items rest.now) b (state_of k progress.old)
         ≡ step_of (onward_same k progress.new b) (names_of k) answer) }
 {
     let taken = line_len(rest);
@@ -90,55 +90,37 @@ fn at_directive(
     token: &Token,
     rest: &[Token],
 ) -> Answer<usize>
-    requires { (is_include_by (a_directive directive) && not (is_skipped_lem (reverse branches.old.items))) ≡ false }
+    requires { (is_include_by (a_directive directive) && not (conditionals.is_skipped (reverse branches.old.items))) ≡ false }
     ensures follows { (u : Use) (i : Included) (n : Bytes) → IfOk result (λ answer.
-        at_directive_lem u i n directive (lexeme_in known.old.files.items token.now) (lexemes_in known.old.files.items rest.now)
+        file_steps.at_directive u i n directive (lexeme_in known.old.files.items token.now) (lexemes_in known.old.files.items rest.now)
         (reverse branches.old.items) (state_of known.old progress.old)
         ≡ step_of (onward_seen known.new progress.new branches.new) (names_of known.old) answer) }
     ensures files { known.new.files ≡ known.old.files }
     ensures within { IsWithin known.old → AreWithin (length known.old.files.items) rest.now → IfOk result (λ answer. IsWithin known.new) }
 {
     match directive {
-        Directive::Ifdef => {
-            let taken = given!(at_if(known, progress, branches, false, token, rest)?);
-            Ok(Ok(taken))
-        }
-        Directive::Ifndef => {
-            let taken = given!(at_if(known, progress, branches, true, token, rest)?);
-            Ok(Ok(taken))
-        }
-        Directive::Elsif => {
-            let taken = given!(at_elsif(known, progress, branches, token, rest)?);
-            Ok(Ok(taken))
-        }
-        Directive::Else => {
-            let taken = given!(at_else(progress, branches, token)?);
-            Ok(Ok(taken))
-        }
-        Directive::Endif => {
-            let taken = given!(at_endif(progress, branches, token));
-            Ok(Ok(taken))
-        }
+        Directive::Ifdef => at_if(known, progress, branches, false, token, rest),
+        Directive::Ifndef => at_if(known, progress, branches, true, token, rest),
+        Directive::Elsif => at_elsif(known, progress, branches, token, rest),
+        Directive::Else => at_else(progress, branches, token),
+        Directive::Endif => Ok(at_endif(progress, branches, token)),
         Directive::Define => {
             if is_skipped(branches) {
                 return Ok(Ok(0));
             }
-            let taken = given!(at_define(known, progress, token, rest)?);
-            Ok(Ok(taken))
+            at_define(known, progress, token, rest)
         }
         Directive::Undef => {
             if is_skipped(branches) {
                 return Ok(Ok(0));
             }
-            let taken = given!(at_undef(known, progress, token, rest)?);
-            Ok(Ok(taken))
+            at_undef(known, progress, token, rest)
         }
         Directive::Ignored => {
             if is_skipped(branches) {
                 return Ok(Ok(0));
             }
-            let taken = given!(at_ignored(progress, rest)?);
-            Ok(Ok(taken))
+            at_ignored(progress, rest)
         }
         // It is read elsewhere where text isn't skipped.
         Directive::Include => Ok(Ok(0)),
@@ -154,8 +136,8 @@ fn at_outermost(
     token: &Token,
     rest: &[Token],
 ) -> Answer<usize>
-    ensures { (i : Included) (n : Bytes) (b : List Branch_lem) → IfOk result (λ answer.
-        at_outermost_lem (use_within uses) i n name.now (lexeme_in known.now.files.items token.now)
+    ensures { (i : Included) (n : Bytes) (b : List types.Branch) → IfOk result (λ answer.
+        file_steps.at_outermost (use_within uses) i n name.now (lexeme_in known.now.files.items token.now)
         (lexemes_in known.now.files.items rest.now) b (state_of known.now progress.old)
         ≡ step_of (onward_same known.now progress.new b) (names_of known.now) answer) }
 {
@@ -167,8 +149,7 @@ fn at_outermost(
         arguments: &[],
         depth: uses,
     };
-    let taken = given!(expand_use(known, progress, &inside, name, rest)?);
-    Ok(Ok(taken))
+    expand_use(known, progress, &inside, name, rest)
 }
 
 /// A token that is read, where it is no include that is read. It tells how many of the tokens after it were read.
@@ -180,9 +161,9 @@ pub fn at_token(
     token: &Token,
     rest: &[Token],
 ) -> Answer<usize>
-    requires { (is_include_by (role_of_lem (lexeme_in known.old.files.items token.now)) && not (is_skipped_lem (reverse branches.old.items))) ≡ false }
+    requires { (is_include_by (lexemes.role_of (lexeme_in known.old.files.items token.now)) && not (conditionals.is_skipped (reverse branches.old.items))) ≡ false }
     ensures follows { (i : Included) (n : Bytes) → IfOk result (λ answer.
-        at_token_lem (use_within uses) i n (role_of_lem (lexeme_in known.old.files.items token.now))
+        file_steps.at_token (use_within uses) i n (lexemes.role_of (lexeme_in known.old.files.items token.now))
         (lexeme_in known.old.files.items token.now) (lexemes_in known.old.files.items rest.now)
         (reverse branches.old.items) (state_of known.old progress.old)
         ≡ step_of (onward_seen known.new progress.new branches.new) (names_of known.old) answer) }
@@ -192,15 +173,13 @@ pub fn at_token(
     match role_of(known.files.as_slice(), token) {
         Role::LineEnd => Ok(Ok(0)),
         Role::Directive(directive) => {
-            let taken = given!(at_directive(known, progress, branches, directive, token, rest)?);
-            Ok(Ok(taken))
+            at_directive(known, progress, branches, directive, token, rest)
         }
         Role::Use(name) => {
             if is_skipped(branches) {
                 return Ok(Ok(0));
             }
-            let taken = given!(at_outermost(known, progress, name, uses, token, rest)?);
-            Ok(Ok(taken))
+            at_outermost(known, progress, name, uses, token, rest)
         }
         Role::Name(_) | Role::Another => {
             if is_skipped(branches) {

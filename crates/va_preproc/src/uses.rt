@@ -1,10 +1,11 @@
 //! Uses of macros (Using a text macro).
 ghost use Rattle.std.specs.Prelude.{◌≡◌, IfOk, List, map, Some, option_map};
 ghost use Rattle.std.specs.List.{zip};
-ghost use Rattle.va_base.specs.declared.file.FileText.{FileText as FileText_lem};
-ghost use Rattle.va_preproc.specs.declared.known.Known.{Known as Known_lem};
-ghost use Rattle.va_preproc.specs.Lexemes.{found, is_among as is_among_lem, role_of as role_of_lem};
-ghost use Rattle.va_preproc.specs.Uses.{Use, by_formals, matching as matching_lem, at_name as at_name_lem, at_role as at_role_lem, expand_list as expand_list_lem, expand_argument as expand_argument_lem, expand_arguments as expand_arguments_lem, open_use as open_use_lem, use_within};
+ghost use Rattle.va_preproc.specs.Types as types;
+ghost use Rattle.va_preproc.specs.Lexemes as lexemes;
+ghost use Rattle.va_preproc.specs.Lexemes.{found};
+ghost use Rattle.va_preproc.specs.Uses as macro_uses;
+ghost use Rattle.va_preproc.specs.Uses.{Use, by_formals, use_within};
 ghost use Rattle.va_preproc.specs.Values.{step_of, state_of, names_of, lexeme_in, lexemes_in, inside_of, body_inside, arguments_seen, macro_in};
 
 use crate::answer::{Answer, given};
@@ -33,7 +34,7 @@ pub struct Inside<'a> {
 
 /// A name is among some names.
 fn is_among(names: &[&[u8]], name: &[u8]) -> bool
-    ensures { result ≡ is_among_lem (map (λ other. other.now) names.now) name.now }
+    ensures { result ≡ lexemes.is_among (map (λ other. other.now) names.now) name.now }
 {
     for other in names {
         if name == *other {
@@ -59,7 +60,7 @@ fn argument_at<'a>(
 
 /// What a name gives, if it is a formal: its expanded argument.
 fn argument_of<'a>(inside: &Inside<'a>, name: &[u8]) -> Option<&'a [Token]>
-    ensures { (files : List FileText_lem) → option_map (λ argument. lexemes_in files argument.now) result
+    ensures { (files : List types.FileText) → option_map (λ argument. lexemes_in files argument.now) result
         ≡ found (inside_of files inside.now).formals name.now }
 {
     argument_at(inside.formals, inside.arguments, name)
@@ -70,8 +71,8 @@ fn matching<'a>(
     formals: &FormalNames,
     arguments: Option<Vec<&'a [Token]>>,
 ) -> Option<Vec<&'a [Token]>>
-    ensures { (files : List FileText_lem) → arguments_seen files result
-        ≡ matching_lem (map (λ formal. formal.items) formals.now.keys) (arguments_seen files arguments.entry) }
+    ensures { (files : List types.FileText) → arguments_seen files result
+        ≡ macro_uses.matching (map (λ formal. formal.items) formals.now.keys) (arguments_seen files arguments.entry) }
 {
     let arguments = arguments?;
     if arguments.len() != formals.len() {
@@ -122,7 +123,7 @@ fn open_use(
     rest: &[Token],
 ) -> Answer<usize>
     ensures { IfOk result (λ answer.
-        open_use_lem (use_within inside.now.depth) (inside_of known.now.files.items inside.now) name.now
+        macro_uses.open_use (use_within inside.now.depth) (inside_of known.now.files.items inside.now) name.now
         (macro_in known.now.files.items definition.now) (lexemes_in known.now.files.items rest.now) (state_of known.now progress.old)
         ≡ step_of (λ taken. (taken, state_of known.now progress.new)) (names_of known.now) answer) }
 {
@@ -190,7 +191,7 @@ fn expand_arguments(
     arguments: &[&[Token]],
 ) -> Answer<Vec<Vec<Token>>>
     ensures { IfOk result (λ answer.
-        expand_arguments_lem (use_within inside.now.depth) (inside_of known.now.files.items inside.now)
+        macro_uses.expand_arguments (use_within inside.now.depth) (inside_of known.now.files.items inside.now)
         (map (λ argument. lexemes_in known.now.files.items argument.now) arguments.now) (state_of known.now progress.old)
         ≡ step_of (λ all. (map (λ argument. lexemes_in known.now.files.items argument.items) all.items, state_of known.now progress.new))
         (names_of known.now) answer) }
@@ -212,7 +213,7 @@ fn expand_argument(
     argument: &[Token],
 ) -> Answer<Vec<Token>>
     ensures { IfOk result (λ answer.
-        expand_argument_lem (use_within inside.now.depth) (inside_of known.now.files.items inside.now)
+        macro_uses.expand_argument (use_within inside.now.depth) (inside_of known.now.files.items inside.now)
         (lexemes_in known.now.files.items argument.now) (state_of known.now progress.old)
         ≡ step_of (λ given. (lexemes_in known.now.files.items given.items, state_of known.now progress.new)) (names_of known.now) answer) }
 {
@@ -235,7 +236,7 @@ fn expand_body(
     arguments: &[Vec<Token>],
 ) -> Answer<()>
     ensures { IfOk result (λ answer.
-        expand_list_lem (use_within inside.now.depth)
+        macro_uses.expand_list (use_within inside.now.depth)
         (body_inside known.now.files.items inside.now name.now formals.now.keys arguments.now) 0
         (lexemes_in known.now.files.items body.now) (state_of known.now progress.old)
         ≡ step_of (λ u. state_of known.now progress.new) (names_of known.now) answer) }
@@ -263,7 +264,7 @@ fn expand_list(
     tokens: &[Token],
 ) -> Answer<()>
     ensures { IfOk result (λ answer.
-        expand_list_lem (use_within inside.now.depth) (inside_of known.now.files.items inside.now) 0
+        macro_uses.expand_list (use_within inside.now.depth) (inside_of known.now.files.items inside.now) 0
         (lexemes_in known.now.files.items tokens.now) (state_of known.now progress.old)
         ≡ step_of (λ u. state_of known.now progress.new) (names_of known.now) answer) }
 {
@@ -287,8 +288,8 @@ fn expand_token(
     rest: &[Token],
 ) -> Answer<usize>
     ensures { IfOk result (λ answer.
-        at_role_lem (use_within inside.now.depth) (inside_of known.now.files.items inside.now)
-        (role_of_lem (lexeme_in known.now.files.items token.now)) (lexeme_in known.now.files.items token.now)
+        macro_uses.at_role (use_within inside.now.depth) (inside_of known.now.files.items inside.now)
+        (lexemes.role_of (lexeme_in known.now.files.items token.now)) (lexeme_in known.now.files.items token.now)
         (lexemes_in known.now.files.items rest.now) (state_of known.now progress.old)
         ≡ step_of (λ taken. (taken, state_of known.now progress.new)) (names_of known.now) answer) }
 {
@@ -320,8 +321,8 @@ fn give_name(
     argument: Option<&[Token]>,
     token: &Token,
 ) -> Answer<()>
-    ensures { (k : Known_lem) (at_use : Use) → IfOk result (λ answer.
-        at_name_lem at_use (inside_of k.files.items inside.now)
+    ensures { (k : types.Known) (at_use : Use) → IfOk result (λ answer.
+        macro_uses.at_name at_use (inside_of k.files.items inside.now)
         (option_map (λ argument. lexemes_in k.files.items argument.now) argument.entry)
         (lexeme_in k.files.items token.now) (state_of k progress.old)
         ≡ step_of (λ u. state_of k progress.new) (names_of k) answer) }
