@@ -6,7 +6,6 @@ pub mod Disciplines
 pub mod Faults
 pub mod FaultsLaws
 pub mod Kinds
-pub mod LoneModule
 pub mod LookedAt
 pub mod Lookup
 pub mod Meanings
