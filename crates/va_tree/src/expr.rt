@@ -58,7 +58,7 @@ pub enum Callee {
 
 /// An expression. `at` is the index of its first token: for a binary operator and a choice that of the first operand.
 #[cycle(expr)]
-#[derive(Drop)]
+#[derive(Debug, Drop)]
 pub enum Expr {
     /// A numeral: its exact value, and whether its type is integer, else it is real (Numbers).
     Literal {
@@ -111,7 +111,7 @@ pub enum Expr {
 
 /// An argument: a string or an expression.
 #[cycle(expr)]
-#[derive(Drop)]
+#[derive(Debug, Drop)]
 pub enum Arg {
     Text(NameAt),
     Expr(Expr),

@@ -21,7 +21,7 @@ pub enum Direction {
 }
 
 /// `module name(ports); items endmodule`, and the attributes before it. `at` is the index of the name.
-#[derive(Drop)]
+#[derive(Debug, Drop)]
 pub struct Module {
     pub attributes: Items<AttributeGroup>,
     pub at: u32,
@@ -31,14 +31,14 @@ pub struct Module {
 }
 
 /// An item of a module, and the attributes before it.
-#[derive(Drop)]
+#[derive(Debug, Drop)]
 pub struct Item {
     pub attributes: Items<AttributeGroup>,
     pub body: ItemBody,
 }
 
 /// An item without its attributes. `at` is the index of its first token.
-#[derive(Drop)]
+#[derive(Debug, Drop)]
 pub enum ItemBody {
     /// `inout discipline names;`, or another direction. The discipline may be missing.
     Direction {
@@ -91,7 +91,7 @@ pub enum ItemBody {
 }
 
 /// `name = default ranges` (Parameters).
-#[derive(Drop)]
+#[derive(Debug, Drop)]
 pub struct Parameter {
     pub name: NameAt,
     pub default: Expr,
@@ -99,7 +99,7 @@ pub struct Parameter {
 }
 
 /// A condition on a parameter's value (Parameters).
-#[derive(Drop)]
+#[derive(Debug, Drop)]
 pub enum Range {
     /// `from`, with an interval
     From(Interval),
@@ -110,21 +110,21 @@ pub enum Range {
 }
 
 /// `[low : high]`, with a round bracket at an end that is open.
-#[derive(Drop)]
+#[derive(Debug, Drop)]
 pub struct Interval {
     pub low: Bound,
     pub high: Bound,
 }
 
 /// An end of an interval: closed where the interval has it, with a square bracket, else open.
-#[derive(Drop)]
+#[derive(Debug, Drop)]
 pub struct Bound {
     pub closed: bool,
     pub value: Expr,
 }
 
 /// `real variables;` or `integer variables;`. `at` is the index of its first token.
-#[derive(Drop)]
+#[derive(Debug, Drop)]
 pub struct Declaration {
     pub at: u32,
     pub ty: Ty,
@@ -132,14 +132,14 @@ pub struct Declaration {
 }
 
 /// `name = initialiser`, or a name alone.
-#[derive(Drop)]
+#[derive(Debug, Drop)]
 pub struct Variable {
     pub name: NameAt,
     pub initialiser: Option<Expr>,
 }
 
 /// A declaration in a function (User-defined analog functions). `at` is the index of its first token.
-#[derive(Drop)]
+#[derive(Debug, Drop)]
 pub enum FunctionItem {
     /// `input names;`
     Input {

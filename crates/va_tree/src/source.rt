@@ -5,7 +5,7 @@ use crate::name::NameAt;
 use va_base::{Items, Name};
 
 /// A text: its natures, its disciplines and its modules, each in the order of the text.
-#[derive(Drop)]
+#[derive(Debug, Drop)]
 pub struct Source {
     pub natures: Items<Nature>,
     pub disciplines: Items<Discipline>,
@@ -14,7 +14,7 @@ pub struct Source {
 
 /// `nature name : parent; items endnature`, and the attributes before it. The parent and its `:` may be missing. `at` is the
 /// index of the name (Natures).
-#[derive(Drop)]
+#[derive(Debug, Drop)]
 pub struct Nature {
     pub attributes: Items<AttributeGroup>,
     pub at: u32,
@@ -24,7 +24,7 @@ pub struct Nature {
 }
 
 /// `name = value;`. `at` is the index of the name.
-#[derive(Drop)]
+#[derive(Debug, Drop)]
 pub struct NatureItem {
     pub at: u32,
     pub name: Name,
@@ -32,7 +32,7 @@ pub struct NatureItem {
 }
 
 /// `discipline name; items enddiscipline`, and the attributes before it. `at` is the index of the name (Disciplines).
-#[derive(Drop)]
+#[derive(Debug, Drop)]
 pub struct Discipline {
     pub attributes: Items<AttributeGroup>,
     pub at: u32,
@@ -48,7 +48,7 @@ pub enum Quantity {
 }
 
 /// An item of a discipline (Disciplines). `at` is the index of its first token.
-#[derive(Drop)]
+#[derive(Debug, Drop)]
 pub enum DisciplineItem {
     /// `potential nature;` or `flow nature;`
     Binding {
@@ -71,13 +71,13 @@ pub enum DisciplineItem {
 }
 
 /// What stands between one `(*` and its `*)`: one or more attributes.
-#[derive(Drop)]
+#[derive(Debug, Drop)]
 pub struct AttributeGroup {
     pub attributes: Items<Attribute>,
 }
 
 /// `name = value`, or a name alone. `at` is the index of the name.
-#[derive(Drop)]
+#[derive(Debug, Drop)]
 pub struct Attribute {
     pub at: u32,
     pub name: Name,

@@ -13,7 +13,7 @@ pub enum EventKind {
 }
 
 /// `target = value` in the head of a `for` (Looping statements).
-#[derive(Drop)]
+#[derive(Debug, Drop)]
 pub struct Assignment {
     pub target: NameAt,
     pub value: Expr,
@@ -21,7 +21,7 @@ pub struct Assignment {
 
 /// A statement. `at` is the index of its first token.
 #[cycle(stmt)]
-#[derive(Drop)]
+#[derive(Debug, Drop)]
 pub enum Stmt {
     /// `;`
     Null {
@@ -101,7 +101,7 @@ pub enum Stmt {
 
 /// `values : body`, with one or more values. `at` is the index of the first value's first token.
 #[cycle(stmt)]
-#[derive(Drop)]
+#[derive(Debug, Drop)]
 pub struct CaseItem {
     pub at: u32,
     pub values: Items<Expr>,
@@ -110,7 +110,7 @@ pub struct CaseItem {
 
 /// `default : body`. `at` is the index of the word `default`.
 #[cycle(stmt)]
-#[derive(Drop)]
+#[derive(Debug, Drop)]
 pub struct CaseDefault {
     pub at: u32,
     pub body: Stmt,
