@@ -1,6 +1,6 @@
 -- Uses of cells, part by part.
 use Rattle.std.proofs.Common.{◌≡◌, ℕ, List, [], ◌∷◌, ◌++◌, refl, ap, sym, ◌∙◌}
-use Rattle.std.specs.Prelude.{Bool, true, false, Option, Some, None, if◌then◌else◌}
+use Rattle.std.specs.Prelude.{Bool, Option, Some, None, if◌then◌else◌}
 use Rattle.std.specs.Option.{is_some}
 use Rattle.std.specs.List.{flat_map}
 use Rattle.std.proofs.lemmas.List.{append-nil}
@@ -9,7 +9,7 @@ use Rattle.alg_laws.specs.declared.number.Ty.{Ty}
 use Rattle.c_tree.specs.declared.body.CAtom.{CAtom}
 use Rattle.c_tree.specs.declared.body.CCell.{CCell}
 use Rattle.c_tree.specs.Raw.{At, word_at, RawLoad, RawSimple, RawModule}
-use Rattle.c_tree.specs.rules.Bodies.{of_simple, of_test, of_value, RawBody, Scoped, items_of, atoms_of_simple, cell_of, set_cells}
+use Rattle.c_tree.specs.rules.Bodies.{of_simple, of_test, RawBody, Scoped, items_of, atoms_of_simple, cell_of, set_cells}
 use Rattle.c_tree.specs.rules.Fields.{body_cells, cell_missing, cells_in, instance_type, load_cells, loaded_field, missing, unlike}
 use Rattle.c_form.specs.CellUses.{atom_missing, factor_missing, item_missing}
 use Rattle.c_form.specs.FieldTypes.{has_type}

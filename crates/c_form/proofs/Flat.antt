@@ -1,11 +1,11 @@
 -- Flat lists of statements and their blocks have the same items.
-use Rattle.std.proofs.Common.{◌≡◌, ℕ, suc, zero, List, [], ◌∷◌, ◌++◌, length, refl, ap, sym, ◌∙◌, append_assoc, subst, arith}
-use Rattle.std.specs.Prelude.{map, Bool, true, false}
+use Rattle.std.proofs.Common.{◌≡◌, ℕ, suc, zero, List, [], ◌∷◌, ◌++◌, length, refl, ap, sym, ◌∙◌, append_assoc, arith}
+use Rattle.std.specs.Prelude.{map, true}
 use Rattle.std.specs.List.{flat_map}
 use Rattle.std.proofs.lemmas.List.{append-nil}
 use Rattle.std.proofs.lemmas.Grind.{flat_map-append}
 use Rattle.c_tree.specs.Raw as raw
-use Rattle.c_tree.specs.rules.Bodies.{Declared, Item, of_simple, of_test, of_value, Scoped, scoped, RawBody, items_of, items_in, declares, locals_of}
+use Rattle.c_tree.specs.rules.Bodies.{Declared, Item, of_simple, of_test, Scoped, scoped, RawBody, items_of, items_in, declares, locals_of}
 use Rattle.c_raw.specs.Blocks.{at_view, simple_view, first_block, later_blocks, blocks_of, block_view, ends, is_body}
 use Rattle.c_raw.specs.declared.body.RawStatement.{RawStatement}
 use Rattle.c_raw.specs.declared.body.RawStatement.TheVariants.{Simple, Leave, If, For, End}

@@ -1,12 +1,12 @@
 -- The order of kinds, by the highest that stood before, and their counts.
-use Rattle.std.proofs.Common.{◌≡◌, ◌<◌, ◌≤◌, ◌+◌, ℕ, suc, List, [], ◌∷◌, ◌++◌, length, get_or, drop, drop-cons, refl, ap, sym, ◌∙◌, add-one, arith}
+use Rattle.std.proofs.Common.{◌≡◌, ◌<◌, ◌≤◌, ◌+◌, ℕ, List, [], ◌∷◌, ◌++◌, length, get_or, drop, refl, ap, ◌∙◌, arith}
 use Rattle.std.specs.Prelude.{map, max, not, Bool, true, false, ◌||◌, if◌then◌else◌, nat_lt, nat_le, Option}
 use Rattle.std.specs.List.{list_any}
 use Rattle.std.proofs.lemmas.Bool.Decides.{nat_tests}
 use Rattle.std.proofs.Math.ListN.{drop_of_length-le}
 use Rattle.c_tree.specs.declared.table.ParamKind.{ParamKind}
 use Rattle.c_tree.specs.Raw as raw
-use Rattle.c_tree.specs.rules.Tables.{kinds_in_order, rank, count_params}
+use Rattle.c_tree.specs.rules.Tables.{kinds_in_order, rank}
 use Rattle.c_raw.specs.Views.{param_view}
 use Rattle.c_raw.specs.declared.table.RawParam.{RawParam}
 use Rattle.c_form.specs.Blames.{Blames}

@@ -1,13 +1,12 @@
 -- What is known behind declarations, and where blocks open and close.
-use Rattle.std.proofs.Common.{◌≡◌, ℕ, List, [], ◌∷◌, ◌++◌, length, refl, ap, sym, ◌∙◌, subst}
-use Rattle.std.specs.Prelude.{Bool, true, false, ◌==◌, if◌then◌else◌, nat_eq, Option, Some, None}
+use Rattle.std.proofs.Common.{◌≡◌, ℕ, List, [], ◌∷◌, ◌++◌, refl, ap, sym, ◌∙◌}
+use Rattle.std.specs.Prelude.{Bool, true, false, ◌==◌, if◌then◌else◌, nat_eq, Option, Some}
 use Rattle.std.proofs.lemmas.Bool.{eqb-true}
 use Rattle.indexmap.specs.IndexMap.{get}
 use Rattle.alg_laws.specs.declared.number.Ty.{Ty}
 use Rattle.c_tree.specs.rules.Bodies.{Declared}
-use Rattle.c_tree.specs.rules.Types.{type_of_local}
 use Rattle.c_form.specs.OpenBlocks.{innermost_first}
-use Rattle.c_form.specs.Scopes.{undone, IsKnown, Behind, IsScope, known_behind, outer_behind}
+use Rattle.c_form.specs.Scopes.{undone, Behind, IsScope, known_behind, outer_behind}
 use Rattle.c_form.specs.declared.scope.Frame.{Frame}
 use Rattle.c_form.specs.declared.scope.Hidden.{Hidden}
 use Rattle.c_form.specs.declared.scope.Scope.{Scope}

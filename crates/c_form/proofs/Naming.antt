@@ -1,7 +1,7 @@
 -- Types of fields by their names.
-use Rattle.std.proofs.Common.{◌≡◌, ◌<◌, ◌≤◌, ◌-◌, ℕ, zero, suc, List, [], ◌∷◌, length, get_or, drop, drop-cons, refl, sym, ap, ◌∙◌, arith}
+use Rattle.std.proofs.Common.{◌≡◌, ◌<◌, ◌≤◌, ◌-◌, ℕ, zero, suc, List, ◌∷◌, length, get_or, drop, drop-cons, refl, sym, ap, ◌∙◌, arith}
 use Rattle.std.specs.Global.{Vec}
-use Rattle.std.specs.Prelude.{Bool, true, false, Option, Some, None, if◌then◌else◌, map}
+use Rattle.std.specs.Prelude.{Bool, true, false, Option, Some, if◌then◌else◌, map}
 use Rattle.std.specs.Str.{bytes_eq}
 use Rattle.std.specs.Map.{KeepsOthers}
 use Rattle.std.proofs.lemmas.Bool.Decides.{same_from_decides, Decides-like}
@@ -9,7 +9,6 @@ use Rattle.std.proofs.lemmas.Slice.Eq.{bytes_eq-Decides}
 use Rattle.indexmap.specs.IndexMap.{IndexMap, get_by, UpdatesBy}
 use Rattle.alg_laws.specs.declared.number.Ty.{Ty}
 use Rattle.c_tree.specs.declared.body.CField.{CField}
-use Rattle.c_tree.specs.Raw as raw
 use Rattle.c_tree.specs.Text.{field_word}
 use Rattle.c_tree.specs.rules.Fields.{type_among}
 use Rattle.c_raw.specs.Views.{field_view}

@@ -1,10 +1,10 @@
 -- Walks with a list of open blocks find what the rules find in the blocks.
-use Rattle.std.proofs.Common.{◌≡◌, ℕ, suc, zero, List, [], ◌∷◌, ◌++◌, length, refl, ap, sym, ◌∙◌, append_assoc, arith}
-use Rattle.std.specs.Prelude.{Bool, true, false, not, if◌then◌else◌, Option}
+use Rattle.std.proofs.Common.{◌≡◌, ℕ, suc, List, [], ◌∷◌, ◌++◌, length, refl, ap, sym, ◌∙◌, append_assoc, arith}
+use Rattle.std.specs.Prelude.{Bool, true, false, Option}
 use Rattle.std.proofs.lemmas.List.{append-nil}
 use Rattle.c_tree.specs.Raw as raw
 use Rattle.c_tree.specs.rules.Breaks.{breaks_in}
-use Rattle.c_raw.specs.Blocks.{at_view, simple_view, first_block, later_blocks, blocks_of, block_view, ends, is_body}
+use Rattle.c_raw.specs.Blocks.{first_block, later_blocks, blocks_of, block_view, ends, is_body}
 use Rattle.c_raw.specs.declared.body.RawStatement.{RawStatement}
 use Rattle.c_raw.specs.declared.body.RawStatement.TheVariants.{Simple, Leave, If, For, End}
 use Rattle.c_form.specs.OpenBlocks.{breaks_flat, innermost_first}

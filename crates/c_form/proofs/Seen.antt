@@ -1,6 +1,6 @@
 -- What stands again, by what was seen before.
 use Rattle.std.proofs.Common.{◌≡◌, ◌<◌, ◌≤◌, ◌+◌, ℕ, List, [], ◌∷◌, ◌++◌, length, get_or, drop, drop-cons, refl, ap, sym, ◌∙◌, add-one, arith}
-use Rattle.std.specs.Prelude.{map, min, Option, Some, None, Bool, true, false, not, ◌==◌, ◌||◌, if◌then◌else◌, cond}
+use Rattle.std.specs.Prelude.{map, Option, Some, None, Bool, true, false, not, ◌==◌, ◌||◌, if◌then◌else◌, cond}
 use Rattle.std.specs.Option.{is_some}
 use Rattle.std.specs.List.{flat_map, list_any}
 use Rattle.std.proofs.lemmas.Bool.Decides.{nat_tests}

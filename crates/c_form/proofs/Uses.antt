@@ -1,6 +1,6 @@
 -- Uses of locals and arguments, part by part.
-use Rattle.std.proofs.Common.{◌≡◌, ℕ, List, [], ◌∷◌, ◌++◌, refl, ap, sym, ◌∙◌, append_assoc, ◌<◌, ◌≤◌, ◌-◌, zero, suc, length, get_or, drop, drop-cons, arith}
-use Rattle.std.specs.Prelude.{map, Bool, true, false, ◌==◌, ◌||◌, if◌then◌else◌, nat_eq, Option, Some, None}
+use Rattle.std.proofs.Common.{◌≡◌, ℕ, List, [], ◌∷◌, ◌++◌, refl, ap, sym, ◌∙◌, ◌<◌, ◌≤◌, ◌-◌, zero, suc, length, get_or, drop, drop-cons, arith}
+use Rattle.std.specs.Prelude.{map, ◌==◌, ◌||◌, if◌then◌else◌, Option, Some}
 use Rattle.std.specs.Option.{is_some}
 use Rattle.std.specs.List.{flat_map, list_any}
 use Rattle.std.proofs.lemmas.List.{append-nil}
@@ -8,7 +8,7 @@ use Rattle.std.proofs.lemmas.Grind.{flat_map-append}
 use Rattle.alg_laws.specs.declared.number.Ty.{Ty}
 use Rattle.c_tree.specs.declared.body.CAtom.{CAtom}
 use Rattle.c_tree.specs.Raw.{At, RawSimple, RawArgument}
-use Rattle.c_tree.specs.rules.Bodies.{Declared, of_simple, of_test, of_value, Scoped, RawBody, atoms_of_simple, assigned, local_of, argument_of}
+use Rattle.c_tree.specs.rules.Bodies.{Declared, of_simple, of_test, of_value, RawBody, atoms_of_simple, assigned, local_of, argument_of}
 use Rattle.c_tree.specs.rules.Locals.{unless_among, used_locals}
 use Rattle.c_tree.specs.rules.Types.{type_of_local, type_of_argument}
 use Rattle.c_raw.specs.Views.{argument_view}

@@ -1,5 +1,5 @@
 -- A walk over a body with what is known finds what the rules find in its block.
-use Rattle.std.proofs.Common.{◌≡◌, ℕ, suc, zero, List, [], ◌∷◌, ◌++◌, length, refl, ap, sym, ◌∙◌, append_assoc, arith, subst}
+use Rattle.std.proofs.Common.{◌≡◌, ℕ, suc, List, [], ◌∷◌, ◌++◌, length, refl, ap, sym, ◌∙◌, append_assoc, subst}
 use Rattle.std.specs.Prelude.{true, map, nat_eq, Option}
 use Rattle.indexmap.specs.IndexMap.{get}
 use Rattle.std.specs.List.{flat_map}

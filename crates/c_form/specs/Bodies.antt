@@ -1,5 +1,5 @@
 -- The bodies of a module as the rules read them: flat lists of statements.
-use Rattle.std.specs.Prelude.{ℕ, Bool, List, [], ◌∷◌}
+use Rattle.std.specs.Prelude.{Bool, List, []}
 use Rattle.c_tree.specs.rules.Bodies.{Item, of_simple, of_test, RawBody, function_body, plain_body, setup_of_model, setup_of_instance, evaluation}
 use Rattle.c_raw.specs.Blocks.{at_view, simple_view, block_view, is_body}
 use Rattle.c_raw.specs.Views.{function_view}

@@ -3,7 +3,7 @@
 use Rattle.std.specs.Prelude.{◌≡◌, ℕ, ◌==◌, if◌then◌else◌, nat_eq, List, [], ◌∷◌, ◌++◌, Option}
 use Rattle.indexmap.specs.IndexMap.{get}
 use Rattle.alg_laws.specs.declared.number.Ty.{Ty}
-use Rattle.c_tree.specs.rules.Bodies.{Declared, Item, of_simple, of_test, Scoped, declares}
+use Rattle.c_tree.specs.rules.Bodies.{Declared, of_simple, of_test, Scoped, declares}
 use Rattle.c_tree.specs.rules.Types.{type_of_local}
 use Rattle.c_raw.specs.Blocks.{at_view, simple_view}
 use Rattle.c_raw.specs.declared.body.RawStatement.{RawStatement}
