@@ -5,10 +5,10 @@ use Rattle.predict.specs.declared.tree.ParseNode.{ParseNode}
 use Rattle.predict.specs.Sentence.{IsParsed}
 use Rattle.va_base.specs.declared.expanded.Expanded.{Expanded}
 use Rattle.va_base.specs.declared.fault.Fault.{Fault}
-use Rattle.va_base.specs.declared.fault.FaultCode.{FaultCode}
 use Rattle.va_tree.specs.declared.source.Source.{Source}
 use Rattle.va_tree.specs.Size.{LeastSizeFault, IsWithinSize}
 use Rattle.va_build.specs.declared.source.TreeErr.{TreeErr}
+use Rattle.va_build.specs.declared.source.TreeErr.TheVariants as refusal
 use Rattle.va_grammar.specs.Kinds.{kinds_of}
 use Rattle.va_build.specs.Reading.{trees_of, first_tree}
 use Rattle.va_grammar.specs.Sets.{va_rules}
@@ -36,21 +36,20 @@ read_source e all p s natures disciplines modules =
     record { tree = p.tree; sentence = p.sentence; only = p.only; source = whole ∙ ap (source_of e) one }
 
 -- the fault that was found is the one that is answered
-pub faulty : (e : Expanded) (all : List ParseNode) (p : IsParsed va_rules (kinds_of e) all) (found f : Fault) (code : FaultCode)
+pub faulty : (e : Expanded) (all : List ParseNode) (p : IsParsed va_rules (kinds_of e) all) (found f : Fault)
     → ((s : Source) → IsSourceOf e s → LeastSizeFault e s found)
-    → (f ≡ found) × (found.code ≡ code)
-    → IsSourceFaulty e f code
-faulty e all p found f code least is = record {
+    → f ≡ found
+    → IsSourceFaulty e f
+faulty e all p found f least is = record {
   faulty = source_of e p.tree;
   source = parsed_source e all p;
-  least = subst (LeastSizeFault e (source_of e p.tree)) (sym is.0) (least (source_of e p.tree) (parsed_source e all p));
-  coded = ap (λ (g : Fault). g.code) is.0 ∙ is.1;
+  least = subst (LeastSizeFault e (source_of e p.tree)) (sym is) (least (source_of e p.tree) (parsed_source e all p));
 }
 
 -- no fault of size stands in the source that was read
 pub within : (e : Expanded) (s : Source) → IsSourceOf e s → ((s : Source) → IsSourceOf e s → IsWithinSize e s) → IsSourceWithinSize e s
 within e s is none = record { source = is; within = none s is }
 
--- two answers are one
-pub same_refusal : (a b : TreeErr) → (let r : Result Source TreeErr = Err a in r) ≡ Err b → a ≡ b
-same_refusal a b e = cc
+-- the fault that is answered
+pub same_fault : (a b : Fault) → (let r : Result Source TreeErr = Err (refusal.Fault a) in r) ≡ Err (refusal.Fault b) → b ≡ a
+same_fault a b e = cc

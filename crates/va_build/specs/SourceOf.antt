@@ -19,7 +19,6 @@ use Rattle.va_tree.specs.declared.source.Quantity.TheVariants.{Potential, Flow}
 use Rattle.va_tree.specs.declared.source.Source.{Source}
 use Rattle.va_tree.specs.Size.{LeastSizeFault, IsWithinSize}
 use Rattle.va_base.specs.declared.fault.Fault.{Fault}
-use Rattle.va_base.specs.declared.fault.FaultCode.{FaultCode}
 use Rattle.va_grammar.specs.declared.terminal.Terminal.TheVariants as kind
 use Rattle.va_grammar.specs.Kinds.{kinds_of}
 use Rattle.va_grammar.specs.Sets.{va_rules}
@@ -128,9 +127,8 @@ pub record IsSourceWithinSize (e : Expanded) (s : Source) : Type 0 where
   pub source : IsSourceOf e s
   pub within : IsWithinSize e s
 
--- The text has a source, and this is the least fault of size that stands in it, with this code.
-pub record IsSourceFaulty (e : Expanded) (f : Fault) (code : FaultCode) : Type 0 where
+-- The text has a source, and this is the least fault of size that stands in it, with its code.
+pub record IsSourceFaulty (e : Expanded) (f : Fault) : Type 0 where
   pub faulty : Source
   pub source : IsSourceOf e faulty
   pub least : LeastSizeFault e faulty f
-  pub coded : f.code ≡ code

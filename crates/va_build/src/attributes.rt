@@ -6,7 +6,7 @@ ghost use Rattle.std.specs.Prelude.{◌≡◌, [], ◌∷◌, IfOk};
 ghost use Rattle.va_base.specs.Expansion.{IsExpanded};
 ghost use Rattle.va_build.specs.AttributeLists.{ReadsGroup};
 ghost use Rattle.va_build.specs.Reading.{Reads};
-ghost use Rattle.va_build.specs.SourceItems.{attribute as attribute_lem, attribute_groups as attribute_groups_lem, attribute_value as attribute_value_lem, more_attributes as more_attributes_lem};
+ghost use Rattle.va_build.specs.SourceItems as source_items;
 
 use crate::read_expressions::argument;
 use crate::read_names::name_at;
@@ -23,7 +23,7 @@ fn attribute_value(
     reader: &mut Reader<'_>,
 ) -> Result<Option<Arg>, AllocError>
     requires { IsExpanded e.now }
-    ensures { IfOk result (λ v. Reads (attribute_value_lem e.now) reader.old reader.new v) }
+    ensures { IfOk result (λ v. Reads (source_items.attribute_value e.now) reader.old reader.new v) }
 {
     match reader.row()? {
         row::ATTRIBUTE_VALUE => {
@@ -39,7 +39,7 @@ fn attribute_value(
 /// An attribute.
 fn attribute(alloc: Global, e: &Expanded, reader: &mut Reader<'_>) -> Result<Attribute, AllocError>
     requires { IsExpanded e.now }
-    ensures { IfOk result (λ v. Reads (attribute_lem e.now) reader.old reader.new (v ∷ [])) }
+    ensures { IfOk result (λ v. Reads (source_items.attribute e.now) reader.old reader.new (v ∷ [])) }
 {
     reader.take(row::ATTRIBUTE)?;
     let at = reader.token()?;
@@ -56,7 +56,7 @@ fn attributes_behind(
     first: Attribute,
 ) -> Result<Vec<Attribute>, AllocError>
     requires { IsExpanded e.now }
-    ensures { IfOk result (λ v. Reads (λ at t. first ∷ more_attributes_lem e.now at t) reader.old reader.new v.items) }
+    ensures { IfOk result (λ v. Reads (λ at t. first ∷ source_items.more_attributes e.now at t) reader.old reader.new v.items) }
 {
     let mut list = vec![in alloc; first]?;
     loop {
@@ -93,7 +93,7 @@ pub(crate) fn attribute_groups(
     reader: &mut Reader<'_>,
 ) -> Result<Vec<AttributeGroup>, AllocError>
     requires { IsExpanded e.now }
-    ensures { IfOk result (λ v. Reads (attribute_groups_lem e.now) reader.old reader.new v.items) }
+    ensures { IfOk result (λ v. Reads (source_items.attribute_groups e.now) reader.old reader.new v.items) }
 {
     let mut list = Vec::new(alloc);
     loop {

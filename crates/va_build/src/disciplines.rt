@@ -5,7 +5,7 @@
 ghost use Rattle.std.specs.Prelude.{◌≡◌, [], ◌∷◌, IfOk};
 ghost use Rattle.va_base.specs.Expansion.{IsExpanded};
 ghost use Rattle.va_build.specs.Reading.{Reads, first_tree, trees};
-ghost use Rattle.va_build.specs.SourceOf.{binding as binding_lem, discipline_item as discipline_item_lem, discipline_items as discipline_items_lem, discipline_of as discipline_of_lem, module_of as module_of_lem, nature as nature_lem};
+ghost use Rattle.va_build.specs.SourceOf as top_level;
 
 use crate::natures::semicolon;
 use crate::read_expressions::argument;
@@ -25,7 +25,7 @@ fn binding(
     of: Quantity,
 ) -> Result<DisciplineItem, AllocError>
     requires { IsExpanded e.now }
-    ensures { IfOk result (λ v. Reads (binding_lem e.now start of) reader.old reader.new v) }
+    ensures { IfOk result (λ v. Reads (top_level.binding e.now start of) reader.old reader.new v) }
 {
     match reader.row()? {
         row::BINDING => {
@@ -61,7 +61,7 @@ fn discipline_item(
     reader: &mut Reader<'_>,
 ) -> Result<DisciplineItem, AllocError>
     requires { IsExpanded e.now }
-    ensures { IfOk result (λ v. Reads (discipline_item_lem e.now) reader.old reader.new v) }
+    ensures { IfOk result (λ v. Reads (top_level.discipline_item e.now) reader.old reader.new v) }
 {
     match reader.row()? {
         row::POTENTIAL => {
@@ -91,7 +91,7 @@ fn discipline_items(
     reader: &mut Reader<'_>,
 ) -> Result<Vec<DisciplineItem>, AllocError>
     requires { IsExpanded e.now }
-    ensures { IfOk result (λ v. Reads (discipline_items_lem e.now) reader.old reader.new v.items) }
+    ensures { IfOk result (λ v. Reads (top_level.discipline_items e.now) reader.old reader.new v.items) }
 {
     let mut list = Vec::new(alloc);
     loop {
@@ -114,9 +114,9 @@ pub(crate) fn discipline_of(
     attributes: Vec<AttributeGroup>,
 ) -> Result<Discipline, AllocError>
     requires { IsExpanded e.now }
-    ensures discipline { IfOk result (λ v. Reads (discipline_of_lem e.now attributes.items) reader.old reader.new (v ∷ [])) }
-    ensures no_nature { IfOk result (λ _. nature_lem e.now attributes.items reader.old.at (first_tree (trees reader.old)) ≡ []) }
-    ensures no_module { IfOk result (λ _. module_of_lem e.now attributes.items reader.old.at (first_tree (trees reader.old)) ≡ []) }
+    ensures discipline { IfOk result (λ v. Reads (top_level.discipline_of e.now attributes.items) reader.old reader.new (v ∷ [])) }
+    ensures no_nature { IfOk result (λ _. top_level.nature e.now attributes.items reader.old.at (first_tree (trees reader.old)) ≡ []) }
+    ensures no_module { IfOk result (λ _. top_level.module_of e.now attributes.items reader.old.at (first_tree (trees reader.old)) ≡ []) }
 {
     reader.take(row::DISCIPLINE)?;
     reader.token()?;

@@ -5,7 +5,7 @@
 ghost use Rattle.std.specs.Prelude.{[], ◌∷◌, IfOk};
 ghost use Rattle.va_base.specs.Expansion.{IsExpanded};
 ghost use Rattle.va_build.specs.Reading.{Reads};
-ghost use Rattle.va_build.specs.SourceItems.{analog as analog_lem, function_item as function_item_lem, function_items as function_items_lem, item_body as item_body_lem};
+ghost use Rattle.va_build.specs.SourceItems as source_items;
 
 use crate::name_lists::names_behind;
 use crate::parameters::optional_type;
@@ -24,7 +24,7 @@ fn function_names(
     reader: &mut Reader<'_>,
 ) -> Result<FunctionItem, AllocError>
     requires { IsExpanded e.now }
-    ensures { IfOk result (λ v. Reads (function_item_lem e.now) reader.old reader.new (v ∷ [])) }
+    ensures { IfOk result (λ v. Reads (source_items.function_item e.now) reader.old reader.new (v ∷ [])) }
 {
     let row = reader.row()?;
     let at = reader.token()?;
@@ -55,7 +55,7 @@ fn function_items(
     reader: &mut Reader<'_>,
 ) -> Result<Vec<FunctionItem>, AllocError>
     requires { IsExpanded e.now }
-    ensures { IfOk result (λ v. Reads (function_items_lem e.now) reader.old reader.new v.items) }
+    ensures { IfOk result (λ v. Reads (source_items.function_items e.now) reader.old reader.new v.items) }
 {
     let mut list = Vec::new(alloc);
     loop {
@@ -78,7 +78,7 @@ fn analog(
     start: u32,
 ) -> Result<ItemBody, AllocError>
     requires { IsExpanded e.now }
-    ensures { IfOk result (λ v. Reads (analog_lem e.now start) reader.old reader.new v) }
+    ensures { IfOk result (λ v. Reads (source_items.analog e.now start) reader.old reader.new v) }
 {
     match reader.row()? {
         row::FUNCTION => {
@@ -112,7 +112,7 @@ pub(crate) fn analog_item(
     reader: &mut Reader<'_>,
 ) -> Result<ItemBody, AllocError>
     requires { IsExpanded e.now }
-    ensures { IfOk result (λ v. Reads (item_body_lem e.now) reader.old reader.new (v ∷ [])) }
+    ensures { IfOk result (λ v. Reads (source_items.item_body e.now) reader.old reader.new (v ∷ [])) }
 {
     reader.take(row::ANALOG)?;
     let start = reader.token()?;

@@ -6,7 +6,7 @@ ghost use Rattle.std.specs.Prelude.{[], ◌∷◌, IfOk};
 ghost use Rattle.va_base.specs.Expansion.{IsExpanded};
 ghost use Rattle.va_build.specs.Directions.{ReadsDirected};
 ghost use Rattle.va_build.specs.Reading.{Reads};
-ghost use Rattle.va_build.specs.SourceItems.{direction as direction_lem, item_body as item_body_lem};
+ghost use Rattle.va_build.specs.SourceItems as source_items;
 
 use crate::functions::analog_item;
 use crate::name_lists::names_behind;
@@ -21,7 +21,7 @@ use va_tree::{Direction, ItemBody, NameAt, Ty};
 
 /// `input`, `output` or `inout`.
 fn direction(reader: &mut Reader<'_>) -> Result<Direction, AllocError>
-    ensures { IfOk result (λ v. Reads (λ at t. direction_lem t) reader.old reader.new v) }
+    ensures { IfOk result (λ v. Reads (λ at t. source_items.direction t) reader.old reader.new v) }
 {
     let row = reader.row()?;
     reader.token()?;
@@ -77,7 +77,7 @@ fn direction_item(
     reader: &mut Reader<'_>,
 ) -> Result<ItemBody, AllocError>
     requires { IsExpanded e.now }
-    ensures { IfOk result (λ v. Reads (item_body_lem e.now) reader.old reader.new (v ∷ [])) }
+    ensures { IfOk result (λ v. Reads (source_items.item_body e.now) reader.old reader.new (v ∷ [])) }
 {
     reader.take(row::DIRECTION_ITEM)?;
     let at = reader.at();
@@ -96,7 +96,7 @@ fn direction_item(
 /// Nodes of a discipline.
 fn nodes(alloc: Global, e: &Expanded, reader: &mut Reader<'_>) -> Result<ItemBody, AllocError>
     requires { IsExpanded e.now }
-    ensures { IfOk result (λ v. Reads (item_body_lem e.now) reader.old reader.new (v ∷ [])) }
+    ensures { IfOk result (λ v. Reads (source_items.item_body e.now) reader.old reader.new (v ∷ [])) }
 {
     reader.take(row::NODES)?;
     let at = reader.token()?;
@@ -114,7 +114,7 @@ fn nodes(alloc: Global, e: &Expanded, reader: &mut Reader<'_>) -> Result<ItemBod
 /// Branches between two nodes, or of one (Branches).
 fn branch(alloc: Global, e: &Expanded, reader: &mut Reader<'_>) -> Result<ItemBody, AllocError>
     requires { IsExpanded e.now }
-    ensures { IfOk result (λ v. Reads (item_body_lem e.now) reader.old reader.new (v ∷ [])) }
+    ensures { IfOk result (λ v. Reads (source_items.item_body e.now) reader.old reader.new (v ∷ [])) }
 {
     reader.take(row::BRANCH)?;
     let at = reader.token()?;
@@ -136,7 +136,7 @@ fn branch(alloc: Global, e: &Expanded, reader: &mut Reader<'_>) -> Result<ItemBo
 /// An alias of a parameter (Aliasparam).
 fn alias(alloc: Global, e: &Expanded, reader: &mut Reader<'_>) -> Result<ItemBody, AllocError>
     requires { IsExpanded e.now }
-    ensures { IfOk result (λ v. Reads (item_body_lem e.now) reader.old reader.new (v ∷ [])) }
+    ensures { IfOk result (λ v. Reads (source_items.item_body e.now) reader.old reader.new (v ∷ [])) }
 {
     reader.take(row::ALIAS)?;
     let at = reader.token()?;
@@ -154,7 +154,7 @@ fn variable_item(
     reader: &mut Reader<'_>,
 ) -> Result<ItemBody, AllocError>
     requires { IsExpanded e.now }
-    ensures { IfOk result (λ v. Reads (item_body_lem e.now) reader.old reader.new (v ∷ [])) }
+    ensures { IfOk result (λ v. Reads (source_items.item_body e.now) reader.old reader.new (v ∷ [])) }
 {
     let row = reader.row()?;
     let at = reader.token()?;
@@ -174,7 +174,7 @@ pub(crate) fn item_body(
     reader: &mut Reader<'_>,
 ) -> Result<ItemBody, AllocError>
     requires { IsExpanded e.now }
-    ensures { IfOk result (λ v. Reads (item_body_lem e.now) reader.old reader.new (v ∷ [])) }
+    ensures { IfOk result (λ v. Reads (source_items.item_body e.now) reader.old reader.new (v ∷ [])) }
 {
     match reader.next_row() {
         Some(row::DIRECTION_ITEM) => direction_item(alloc, e, reader),
@@ -189,7 +189,7 @@ pub(crate) fn item_body(
 /// Parameters or variables.
 fn typed_item(alloc: Global, e: &Expanded, reader: &mut Reader<'_>) -> Result<ItemBody, AllocError>
     requires { IsExpanded e.now }
-    ensures { IfOk result (λ v. Reads (item_body_lem e.now) reader.old reader.new (v ∷ [])) }
+    ensures { IfOk result (λ v. Reads (source_items.item_body e.now) reader.old reader.new (v ∷ [])) }
 {
     match reader.next_row() {
         Some(row::PARAMETERS) => parameter_item(alloc, e, reader),

@@ -5,7 +5,7 @@
 ghost use Rattle.std.specs.Prelude.{◌≡◌, [], ◌∷◌, IfOk};
 ghost use Rattle.va_base.specs.Expansion.{IsExpanded};
 ghost use Rattle.va_build.specs.Reading.{Reads, first_tree, trees};
-ghost use Rattle.va_build.specs.SourceOf.{discipline_of as discipline_of_lem, item as item_lem, items as items_lem, module_of as module_of_lem, nature as nature_lem};
+ghost use Rattle.va_build.specs.SourceOf as top_level;
 
 use crate::attributes::attribute_groups;
 use crate::item_bodies::item_body;
@@ -20,7 +20,7 @@ use va_tree::{AttributeGroup, Item, Module};
 /// An item of a module, with the attributes before it.
 fn item(alloc: Global, e: &Expanded, reader: &mut Reader<'_>) -> Result<Item, AllocError>
     requires { IsExpanded e.now }
-    ensures { IfOk result (λ v. Reads (item_lem e.now) reader.old reader.new (v ∷ [])) }
+    ensures { IfOk result (λ v. Reads (top_level.item e.now) reader.old reader.new (v ∷ [])) }
 {
     reader.take(row::ITEM)?;
     let attributes = attribute_groups(alloc, e, reader)?;
@@ -34,7 +34,7 @@ fn item(alloc: Global, e: &Expanded, reader: &mut Reader<'_>) -> Result<Item, Al
 /// The items of a module.
 fn items(alloc: Global, e: &Expanded, reader: &mut Reader<'_>) -> Result<Vec<Item>, AllocError>
     requires { IsExpanded e.now }
-    ensures { IfOk result (λ v. Reads (items_lem e.now) reader.old reader.new v.items) }
+    ensures { IfOk result (λ v. Reads (top_level.items e.now) reader.old reader.new v.items) }
 {
     let mut list = Vec::new(alloc);
     loop {
@@ -57,9 +57,9 @@ pub(crate) fn module_of(
     attributes: Vec<AttributeGroup>,
 ) -> Result<Module, AllocError>
     requires { IsExpanded e.now }
-    ensures module { IfOk result (λ v. Reads (module_of_lem e.now attributes.items) reader.old reader.new (v ∷ [])) }
-    ensures no_nature { IfOk result (λ _. nature_lem e.now attributes.items reader.old.at (first_tree (trees reader.old)) ≡ []) }
-    ensures no_discipline { IfOk result (λ _. discipline_of_lem e.now attributes.items reader.old.at (first_tree (trees reader.old)) ≡ []) }
+    ensures module { IfOk result (λ v. Reads (top_level.module_of e.now attributes.items) reader.old reader.new (v ∷ [])) }
+    ensures no_nature { IfOk result (λ _. top_level.nature e.now attributes.items reader.old.at (first_tree (trees reader.old)) ≡ []) }
+    ensures no_discipline { IfOk result (λ _. top_level.discipline_of e.now attributes.items reader.old.at (first_tree (trees reader.old)) ≡ []) }
 {
     reader.take(row::MODULE)?;
     reader.token()?;

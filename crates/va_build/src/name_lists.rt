@@ -5,8 +5,8 @@
 ghost use Rattle.std.specs.Prelude.{◌∷◌, IfOk};
 ghost use Rattle.va_base.specs.Expansion.{IsExpanded};
 ghost use Rattle.va_build.specs.Reading.{Reads};
-ghost use Rattle.va_build.specs.SourceItems.{more_names as more_names_lem};
-ghost use Rattle.va_build.specs.SourceOf.{port_list as port_list_lem, ports as ports_lem};
+ghost use Rattle.va_build.specs.SourceItems as source_items;
+ghost use Rattle.va_build.specs.SourceOf as top_level;
 
 use crate::read_names::named;
 use crate::reader::Reader;
@@ -23,7 +23,7 @@ pub(crate) fn names_behind(
     first: NameAt,
 ) -> Result<Vec<NameAt>, AllocError>
     requires { IsExpanded e.now }
-    ensures { IfOk result (λ v. Reads (λ at t. first ∷ more_names_lem e.now at t) reader.old reader.new v.items) }
+    ensures { IfOk result (λ v. Reads (λ at t. first ∷ source_items.more_names e.now at t) reader.old reader.new v.items) }
 {
     let mut list = vec![in alloc; first]?;
     loop {
@@ -46,7 +46,7 @@ fn port_list(
     reader: &mut Reader<'_>,
 ) -> Result<Vec<NameAt>, AllocError>
     requires { IsExpanded e.now }
-    ensures { IfOk result (λ v. Reads (port_list_lem e.now) reader.old reader.new v.items) }
+    ensures { IfOk result (λ v. Reads (top_level.port_list e.now) reader.old reader.new v.items) }
 {
     match reader.row()? {
         row::PORT_LIST => {
@@ -66,7 +66,7 @@ pub(crate) fn ports(
     reader: &mut Reader<'_>,
 ) -> Result<Vec<NameAt>, AllocError>
     requires { IsExpanded e.now }
-    ensures { IfOk result (λ v. Reads (ports_lem e.now) reader.old reader.new v.items) }
+    ensures { IfOk result (λ v. Reads (top_level.ports e.now) reader.old reader.new v.items) }
 {
     match reader.row()? {
         row::PORTS => {

@@ -5,7 +5,7 @@
 ghost use Rattle.std.specs.Prelude.{◌≡◌, [], ◌∷◌, IfOk};
 ghost use Rattle.va_base.specs.Expansion.{IsExpanded};
 ghost use Rattle.va_build.specs.Reading.{Reads, first_tree, trees};
-ghost use Rattle.va_build.specs.SourceOf.{discipline_of as discipline_of_lem, module_of as module_of_lem, nature as nature_lem, nature_items as nature_items_lem, parent as parent_lem};
+ghost use Rattle.va_build.specs.SourceOf as top_level;
 
 use crate::read_expressions::argument;
 use crate::read_names::{name_at, named};
@@ -22,7 +22,7 @@ fn parent(
     reader: &mut Reader<'_>,
 ) -> Result<Option<NameAt>, AllocError>
     requires { IsExpanded e.now }
-    ensures { IfOk result (λ v. Reads (parent_lem e.now) reader.old reader.new v) }
+    ensures { IfOk result (λ v. Reads (top_level.parent e.now) reader.old reader.new v) }
 {
     match reader.row()? {
         row::PARENT => {
@@ -56,7 +56,7 @@ fn nature_items(
     reader: &mut Reader<'_>,
 ) -> Result<Vec<NatureItem>, AllocError>
     requires { IsExpanded e.now }
-    ensures { IfOk result (λ v. Reads (nature_items_lem e.now) reader.old reader.new v.items) }
+    ensures { IfOk result (λ v. Reads (top_level.nature_items e.now) reader.old reader.new v.items) }
 {
     let mut list = Vec::new(alloc);
     loop {
@@ -83,9 +83,9 @@ pub(crate) fn nature(
     attributes: Vec<AttributeGroup>,
 ) -> Result<Nature, AllocError>
     requires { IsExpanded e.now }
-    ensures nature { IfOk result (λ v. Reads (nature_lem e.now attributes.items) reader.old reader.new (v ∷ [])) }
-    ensures no_discipline { IfOk result (λ _. discipline_of_lem e.now attributes.items reader.old.at (first_tree (trees reader.old)) ≡ []) }
-    ensures no_module { IfOk result (λ _. module_of_lem e.now attributes.items reader.old.at (first_tree (trees reader.old)) ≡ []) }
+    ensures nature { IfOk result (λ v. Reads (top_level.nature e.now attributes.items) reader.old reader.new (v ∷ [])) }
+    ensures no_discipline { IfOk result (λ _. top_level.discipline_of e.now attributes.items reader.old.at (first_tree (trees reader.old)) ≡ []) }
+    ensures no_module { IfOk result (λ _. top_level.module_of e.now attributes.items reader.old.at (first_tree (trees reader.old)) ≡ []) }
 {
     reader.take(row::NATURE)?;
     reader.token()?;

@@ -5,7 +5,7 @@
 ghost use Rattle.std.specs.Prelude.{[], ◌∷◌, IfOk};
 ghost use Rattle.va_base.specs.Expansion.{IsExpanded};
 ghost use Rattle.va_build.specs.Reading.{Reads};
-ghost use Rattle.va_build.specs.SourceItems.{item_body as item_body_lem, more_parameters as more_parameters_lem, optional_type as optional_type_lem, parameter as parameter_lem, parameters as parameters_lem};
+ghost use Rattle.va_build.specs.SourceItems as source_items;
 
 use crate::ranges::ranges;
 use crate::read_expressions::expression;
@@ -18,7 +18,7 @@ use va_tree::{ItemBody, Parameter, Ty};
 
 /// `real` or `integer`, if it is said.
 pub(crate) fn optional_type(reader: &mut Reader<'_>) -> Result<Option<Ty>, AllocError>
-    ensures { IfOk result (λ v. Reads (λ at t. optional_type_lem t) reader.old reader.new v) }
+    ensures { IfOk result (λ v. Reads (λ at t. source_items.optional_type t) reader.old reader.new v) }
 {
     match reader.row()? {
         row::REAL_TYPE => {
@@ -37,7 +37,7 @@ pub(crate) fn optional_type(reader: &mut Reader<'_>) -> Result<Option<Ty>, Alloc
 /// A parameter.
 fn parameter(alloc: Global, e: &Expanded, reader: &mut Reader<'_>) -> Result<Parameter, AllocError>
     requires { IsExpanded e.now }
-    ensures { IfOk result (λ v. Reads (parameter_lem e.now) reader.old reader.new (v ∷ [])) }
+    ensures { IfOk result (λ v. Reads (source_items.parameter e.now) reader.old reader.new (v ∷ [])) }
 {
     reader.take(row::PARAMETER)?;
     let name = named(alloc, e, reader)?;
@@ -59,7 +59,7 @@ fn parameters_behind(
     first: Parameter,
 ) -> Result<Vec<Parameter>, AllocError>
     requires { IsExpanded e.now }
-    ensures { IfOk result (λ v. Reads (λ at t. first ∷ more_parameters_lem e.now at t) reader.old reader.new v.items) }
+    ensures { IfOk result (λ v. Reads (λ at t. first ∷ source_items.more_parameters e.now at t) reader.old reader.new v.items) }
 {
     let mut list = vec![in alloc; first]?;
     loop {
@@ -82,7 +82,7 @@ fn parameters(
     reader: &mut Reader<'_>,
 ) -> Result<Vec<Parameter>, AllocError>
     requires { IsExpanded e.now }
-    ensures { IfOk result (λ v. Reads (parameters_lem e.now) reader.old reader.new v.items) }
+    ensures { IfOk result (λ v. Reads (source_items.parameters e.now) reader.old reader.new v.items) }
 {
     reader.take(row::PARAMETER_LIST)?;
     let first = parameter(alloc, e, reader)?;
@@ -97,7 +97,7 @@ pub(crate) fn parameter_item(
     reader: &mut Reader<'_>,
 ) -> Result<ItemBody, AllocError>
     requires { IsExpanded e.now }
-    ensures { IfOk result (λ v. Reads (item_body_lem e.now) reader.old reader.new (v ∷ [])) }
+    ensures { IfOk result (λ v. Reads (source_items.item_body e.now) reader.old reader.new (v ∷ [])) }
 {
     let row = reader.row()?;
     let at = reader.token()?;

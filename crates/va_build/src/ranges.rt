@@ -5,7 +5,7 @@
 ghost use Rattle.std.specs.Prelude.{◌≡◌, [], ◌∷◌, IfOk};
 ghost use Rattle.va_base.specs.Expansion.{IsExpanded};
 ghost use Rattle.va_build.specs.Reading.{Reads};
-ghost use Rattle.va_build.specs.SourceItems.{exclusion as exclusion_lem, exclusion_rest as exclusion_rest_lem, interval as interval_lem, interval_of as interval_of_lem, is_closed as is_closed_lem, ranges as ranges_lem};
+ghost use Rattle.va_build.specs.SourceItems as source_items;
 
 use crate::read_expressions::expression;
 use crate::reader::Reader;
@@ -16,7 +16,7 @@ use va_tree::{Bound, Expr, Interval, Range};
 
 /// Whether an interval has its end: whether the bracket there is a square one.
 fn is_closed(reader: &mut Reader<'_>) -> Result<bool, AllocError>
-    ensures { IfOk result (λ v. Reads (λ at t. is_closed_lem t) reader.old reader.new v) }
+    ensures { IfOk result (λ v. Reads (λ at t. source_items.is_closed t) reader.old reader.new v) }
 {
     let row = reader.row()?;
     reader.token()?;
@@ -31,7 +31,7 @@ fn is_closed(reader: &mut Reader<'_>) -> Result<bool, AllocError>
 
 /// The interval with these ends.
 fn interval_of(below: bool, low: Expr, high: Expr, above: bool) -> Interval
-    ensures { result ≡ interval_of_lem below low high above }
+    ensures { result ≡ source_items.interval_of below low high above }
 {
     Interval {
         low: Bound {
@@ -48,7 +48,7 @@ fn interval_of(below: bool, low: Expr, high: Expr, above: bool) -> Interval
 /// An interval that a parameter has to lie in.
 fn interval(alloc: Global, e: &Expanded, reader: &mut Reader<'_>) -> Result<Range, AllocError>
     requires { IsExpanded e.now }
-    ensures { IfOk result (λ v. Reads (interval_lem e.now) reader.old reader.new (v ∷ [])) }
+    ensures { IfOk result (λ v. Reads (source_items.interval e.now) reader.old reader.new (v ∷ [])) }
 {
     reader.take(row::INTERVAL)?;
     let below = is_closed(reader)?;
@@ -67,7 +67,7 @@ fn exclusion_rest(
     low: Expr,
 ) -> Result<Range, AllocError>
     requires { IsExpanded e.now }
-    ensures { IfOk result (λ v. Reads (exclusion_rest_lem e.now low) reader.old reader.new (v ∷ [])) }
+    ensures { IfOk result (λ v. Reads (source_items.exclusion_rest e.now low) reader.old reader.new (v ∷ [])) }
 {
     match reader.row()? {
         row::EXCLUDED_TO => {
@@ -87,7 +87,7 @@ fn exclusion_rest(
 /// What a parameter may not be.
 fn exclusion(alloc: Global, e: &Expanded, reader: &mut Reader<'_>) -> Result<Range, AllocError>
     requires { IsExpanded e.now }
-    ensures { IfOk result (λ v. Reads (exclusion_lem e.now) reader.old reader.new (v ∷ [])) }
+    ensures { IfOk result (λ v. Reads (source_items.exclusion e.now) reader.old reader.new (v ∷ [])) }
 {
     match reader.row()? {
         row::EXCLUDED_SQUARE => {
@@ -119,7 +119,7 @@ pub(crate) fn ranges(
     reader: &mut Reader<'_>,
 ) -> Result<Vec<Range>, AllocError>
     requires { IsExpanded e.now }
-    ensures { IfOk result (λ v. Reads (ranges_lem e.now) reader.old reader.new v.items) }
+    ensures { IfOk result (λ v. Reads (source_items.ranges e.now) reader.old reader.new v.items) }
 {
     let mut list = Vec::new(alloc);
     loop {

@@ -3,10 +3,10 @@
 //! Each function takes the next tree of the parse tree, and its tokens with it. A row that the nonterminal does not have, which
 //! no parse tree holds, is answered as want of memory is.
 ghost use Rattle.std.specs.Prelude.{◌≡◌, ◌∷◌, IfOk};
-ghost use Rattle.va_build.specs.TokensAt.{name_at as name_at_lem};
+ghost use Rattle.va_build.specs.TokensAt as tokens_at;
 ghost use Rattle.va_base.specs.Expansion.{IsExpanded};
 ghost use Rattle.va_build.specs.Reading.{Reads};
-ghost use Rattle.va_build.specs.SourceExpressions.{argument as argument_lem, arguments as arguments_lem, more_arguments as more_arguments_lem, expression as expression_lem, choice as choice_lem, operand as operand_lem, chain as chain_lem, primary as primary_lem, called as called_lem, bare as bare_lem};
+ghost use Rattle.va_build.specs.SourceExpressions as source_expressions;
 
 use crate::operators::{OperandRow, TailRow, operand_row, tail_row};
 use crate::read_names::{literal, name_at, named};
@@ -25,7 +25,7 @@ pub(crate) fn expression(
     reader: &mut Reader<'_>,
 ) -> Result<Expr, AllocError>
     requires { IsExpanded e.now }
-    ensures { IfOk result (λ v. Reads (expression_lem e.now) reader.old reader.new v) }
+    ensures { IfOk result (λ v. Reads (source_expressions.expression e.now) reader.old reader.new v) }
 {
     reader.take(row::EXPRESSION)?;
     let first = reader.at();
@@ -44,7 +44,7 @@ fn choice(
     test: Expr,
 ) -> Result<Expr, AllocError>
     requires { IsExpanded e.now }
-    ensures { IfOk result (λ v. Reads (choice_lem e.now first test) reader.old reader.new v) }
+    ensures { IfOk result (λ v. Reads (source_expressions.choice e.now first test) reader.old reader.new v) }
 {
     match reader.row()? {
         row::CHOICE => {
@@ -64,7 +64,7 @@ fn choice(
 #[cycle(expression)]
 fn operand(alloc: Global, e: &Expanded, reader: &mut Reader<'_>) -> Result<Expr, AllocError>
     requires { IsExpanded e.now }
-    ensures { IfOk result (λ v. Reads (operand_lem e.now) reader.old reader.new v) }
+    ensures { IfOk result (λ v. Reads (source_expressions.operand e.now) reader.old reader.new v) }
 {
     let row = reader.row()?;
     let at = reader.at();
@@ -103,7 +103,7 @@ fn chain(
     left: Expr,
 ) -> Result<Expr, AllocError>
     requires { IsExpanded e.now }
-    ensures { IfOk result (λ v. Reads (chain_lem e.now first left) reader.old reader.new v) }
+    ensures { IfOk result (λ v. Reads (source_expressions.chain e.now first left) reader.old reader.new v) }
 {
     let mut value = left;
     loop {
@@ -124,7 +124,7 @@ fn chain(
 #[cycle(expression)]
 fn primary(alloc: Global, e: &Expanded, reader: &mut Reader<'_>) -> Result<Expr, AllocError>
     requires { IsExpanded e.now }
-    ensures { IfOk result (λ v. Reads (primary_lem e.now) reader.old reader.new v) }
+    ensures { IfOk result (λ v. Reads (source_expressions.primary e.now) reader.old reader.new v) }
 {
     let row = reader.row()?;
     let at = reader.token()?;
@@ -159,7 +159,7 @@ fn called(
     who: Callee,
 ) -> Result<Expr, AllocError>
     requires { IsExpanded e.now }
-    ensures { IfOk result (λ v. Reads (called_lem e.now name who) reader.old reader.new v) }
+    ensures { IfOk result (λ v. Reads (source_expressions.called e.now name who) reader.old reader.new v) }
 {
     match reader.row()? {
         row::CALL => {
@@ -185,7 +185,7 @@ pub(crate) fn arguments(
     reader: &mut Reader<'_>,
 ) -> Result<Vec<Arg>, AllocError>
     requires { IsExpanded e.now }
-    ensures { IfOk result (λ v. Reads (arguments_lem e.now) reader.old reader.new v.items) }
+    ensures { IfOk result (λ v. Reads (source_expressions.arguments e.now) reader.old reader.new v.items) }
 {
     match reader.row()? {
         row::ARGUMENTS => {
@@ -207,7 +207,7 @@ fn more_arguments(
     first: Arg,
 ) -> Result<Vec<Arg>, AllocError>
     requires { IsExpanded e.now }
-    ensures { IfOk result (λ v. Reads (λ at t. first ∷ more_arguments_lem e.now at t) reader.old reader.new v.items) }
+    ensures { IfOk result (λ v. Reads (λ at t. first ∷ source_expressions.more_arguments e.now at t) reader.old reader.new v.items) }
 {
     let mut args = vec![in alloc; first]?;
     loop {
@@ -231,7 +231,7 @@ pub(crate) fn argument(
     reader: &mut Reader<'_>,
 ) -> Result<Arg, AllocError>
     requires { IsExpanded e.now }
-    ensures { IfOk result (λ v. Reads (argument_lem e.now) reader.old reader.new v) }
+    ensures { IfOk result (λ v. Reads (source_expressions.argument e.now) reader.old reader.new v) }
 {
     match reader.row()? {
         row::TEXT_ARGUMENT => {
@@ -296,7 +296,7 @@ fn call(
     args: Vec<Arg>,
 ) -> Result<Expr, AllocError>
     requires { IsExpanded e.now }
-    ensures { IfOk result (λ v. v ≡ Expr.Call at callee (name_at_lem e.now at) args.items) }
+    ensures { IfOk result (λ v. v ≡ Expr.Call at callee (tokens_at.name_at e.now at) args.items) }
 {
     let name = name_at(alloc, e, at)?;
     Ok(Expr::Call {
@@ -310,7 +310,7 @@ fn call(
 /// A name without parentheses behind it.
 fn bare(alloc: Global, e: &Expanded, at: u32, callee: Callee) -> Result<Expr, AllocError>
     requires { IsExpanded e.now }
-    ensures { IfOk result (λ v. v ≡ bare_lem e.now at callee) }
+    ensures { IfOk result (λ v. v ≡ source_expressions.bare e.now at callee) }
 {
     let name = name_at(alloc, e, at)?;
     match callee {

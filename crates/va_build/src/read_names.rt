@@ -3,7 +3,7 @@ ghost use Rattle.std.specs.Prelude.{◌≡◌, ◌+◌, IfOk, OnOk};
 ghost use Rattle.std.specs.List.{list_all};
 ghost use Rattle.va_base.specs.Expansion.{IsExpanded};
 ghost use Rattle.va_base.specs.Spelling.{is_digit_byte};
-ghost use Rattle.va_build.specs.TokensAt.{word_name, name_of, name_at as name_at_lem, named as named_lem, bytes_at as bytes_at_lem, is_integer as is_integer_lem, literal_at};
+ghost use Rattle.va_build.specs.TokensAt as tokens_at;
 
 use crate::reader::Reader;
 use std::alloc::{AllocError, Global};
@@ -12,7 +12,7 @@ use va_tree::{Expr, NameAt};
 
 /// A word without the `\` of its escaped form.
 fn word_bytes(bytes: &[u8]) -> &[u8]
-    ensures { result.now ≡ word_name bytes.now }
+    ensures { result.now ≡ tokens_at.word_name bytes.now }
 {
     match bytes.split_first() {
         Some((b'\\', rest)) => rest,
@@ -22,7 +22,7 @@ fn word_bytes(bytes: &[u8]) -> &[u8]
 
 /// What names a thing: a word without its `\`, a string between its quotes, and else the bytes themselves.
 fn name_bytes(kind: TokenKind, bytes: &[u8]) -> &[u8]
-    ensures { result.now ≡ name_of kind bytes.now }
+    ensures { result.now ≡ tokens_at.name_of kind bytes.now }
 {
     match kind {
         TokenKind::Word => word_bytes(bytes),
@@ -40,7 +40,7 @@ fn name_bytes(kind: TokenKind, bytes: &[u8]) -> &[u8]
 /// The bytes of the token with this index, and none where there is no such token.
 fn bytes_at(e: &Expanded, at: u32) -> &[u8]
     requires { IsExpanded e.now }
-    ensures { result.now ≡ bytes_at_lem e.now at }
+    ensures { result.now ≡ tokens_at.bytes_at e.now at }
 {
     match e.tokens.as_list().get(at as usize) {
         Some(token) => e.bytes(token),
@@ -51,7 +51,7 @@ fn bytes_at(e: &Expanded, at: u32) -> &[u8]
 /// The name or string at the token with this index.
 pub(crate) fn name_at(alloc: Global, e: &Expanded, at: u32) -> Result<Name, AllocError>
     requires { IsExpanded e.now }
-    ensures { IfOk result (λ n. n ≡ name_at_lem e.now at) }
+    ensures { IfOk result (λ n. n ≡ tokens_at.name_at e.now at) }
 {
     let name = match e.tokens.as_list().get(at as usize) {
         Some(token) => name_bytes(token.kind, e.bytes(token)),
@@ -67,7 +67,7 @@ pub(crate) fn named(
     reader: &mut Reader<'_>,
 ) -> Result<NameAt, AllocError>
     requires { IsExpanded e.now }
-    ensures name { IfOk result (λ n. n ≡ named_lem e.now reader.old.at) }
+    ensures name { IfOk result (λ n. n ≡ tokens_at.named e.now reader.old.at) }
     ensures passed { OnOk result (reader.new.at ≡ reader.old.at + 1) }
     ensures nodes { OnOk result (reader.new.nodes ≡ reader.old.nodes) }
 {
@@ -90,7 +90,7 @@ fn are_digits(bytes: &[u8]) -> bool
 
 /// Whether a numeral of this value is an integer: one of digits alone that is not too large (Numbers).
 fn is_integer(bytes: &[u8], value: Decimal) -> bool
-    ensures { result ≡ is_integer_lem bytes.now value }
+    ensures { result ≡ tokens_at.is_integer bytes.now value }
 {
     let digits = are_digits(bytes);
     digits && value.mantissa < 2147483648
@@ -99,7 +99,7 @@ fn is_integer(bytes: &[u8], value: Decimal) -> bool
 /// The numeral at the token with this index.
 pub(crate) fn literal(e: &Expanded, at: u32) -> Expr
     requires { IsExpanded e.now }
-    ensures { result ≡ literal_at e.now at }
+    ensures { result ≡ tokens_at.literal_at e.now at }
 {
     let bytes = bytes_at(e, at);
     let zero = Decimal {

@@ -8,7 +8,8 @@ ghost use Rattle.va_base.specs.Expansion.{IsExpanded};
 ghost use Rattle.va_grammar.specs.Kinds.{kinds_of};
 ghost use Rattle.va_build.specs.Reading.{Reads};
 ghost use Rattle.va_grammar.specs.Sets.{va_rules};
-ghost use Rattle.va_build.specs.SourceOf.{nature as nature_lem, discipline_of as discipline_of_lem, module_of as module_of_lem, body_of_sort, of_sort, all_of_sort, IsSourceOf};
+ghost use Rattle.va_build.specs.SourceOf.{IsSourceOf};
+ghost use Rattle.va_build.specs.SourceOf as top_level;
 
 use crate::attributes::attribute_groups;
 use crate::disciplines::discipline_of;
@@ -38,9 +39,9 @@ fn declared_at_top(
     found: &mut Found,
 ) -> Result<(), AllocError>
     requires { IsExpanded e.now }
-    ensures natures { OnOk result (Reads (λ at t. found.old.natures.items ++ body_of_sort nature_lem e.now attributes.items at t) reader.old reader.new found.new.natures.items) }
-    ensures disciplines { OnOk result (Reads (λ at t. found.old.disciplines.items ++ body_of_sort discipline_of_lem e.now attributes.items at t) reader.old reader.new found.new.disciplines.items) }
-    ensures modules { OnOk result (Reads (λ at t. found.old.modules.items ++ body_of_sort module_of_lem e.now attributes.items at t) reader.old reader.new found.new.modules.items) }
+    ensures natures { OnOk result (Reads (λ at t. found.old.natures.items ++ top_level.body_of_sort top_level.nature e.now attributes.items at t) reader.old reader.new found.new.natures.items) }
+    ensures disciplines { OnOk result (Reads (λ at t. found.old.disciplines.items ++ top_level.body_of_sort top_level.discipline_of e.now attributes.items at t) reader.old reader.new found.new.disciplines.items) }
+    ensures modules { OnOk result (Reads (λ at t. found.old.modules.items ++ top_level.body_of_sort top_level.module_of e.now attributes.items at t) reader.old reader.new found.new.modules.items) }
 {
     match reader.row()? {
         row::TOP_NATURE => {
@@ -70,9 +71,9 @@ fn top_item(
     found: &mut Found,
 ) -> Result<(), AllocError>
     requires { IsExpanded e.now }
-    ensures natures { OnOk result (Reads (λ at t. found.old.natures.items ++ of_sort nature_lem e.now at t) reader.old reader.new found.new.natures.items) }
-    ensures disciplines { OnOk result (Reads (λ at t. found.old.disciplines.items ++ of_sort discipline_of_lem e.now at t) reader.old reader.new found.new.disciplines.items) }
-    ensures modules { OnOk result (Reads (λ at t. found.old.modules.items ++ of_sort module_of_lem e.now at t) reader.old reader.new found.new.modules.items) }
+    ensures natures { OnOk result (Reads (λ at t. found.old.natures.items ++ top_level.of_sort top_level.nature e.now at t) reader.old reader.new found.new.natures.items) }
+    ensures disciplines { OnOk result (Reads (λ at t. found.old.disciplines.items ++ top_level.of_sort top_level.discipline_of e.now at t) reader.old reader.new found.new.disciplines.items) }
+    ensures modules { OnOk result (Reads (λ at t. found.old.modules.items ++ top_level.of_sort top_level.module_of e.now at t) reader.old reader.new found.new.modules.items) }
 {
     reader.take(row::TOP_ITEM)?;
     let attributes = attribute_groups(alloc, e, reader)?;
@@ -83,9 +84,9 @@ fn top_item(
 /// All natures, disciplines and modules of a text.
 fn all_found(alloc: Global, e: &Expanded, reader: &mut Reader<'_>) -> Result<Found, AllocError>
     requires { IsExpanded e.now }
-    ensures natures { IfOk result (λ v. Reads (all_of_sort nature_lem e.now) reader.old reader.new v.natures.items) }
-    ensures disciplines { IfOk result (λ v. Reads (all_of_sort discipline_of_lem e.now) reader.old reader.new v.disciplines.items) }
-    ensures modules { IfOk result (λ v. Reads (all_of_sort module_of_lem e.now) reader.old reader.new v.modules.items) }
+    ensures natures { IfOk result (λ v. Reads (top_level.all_of_sort top_level.nature e.now) reader.old reader.new v.natures.items) }
+    ensures disciplines { IfOk result (λ v. Reads (top_level.all_of_sort top_level.discipline_of e.now) reader.old reader.new v.disciplines.items) }
+    ensures modules { IfOk result (λ v. Reads (top_level.all_of_sort top_level.module_of e.now) reader.old reader.new v.modules.items) }
 {
     let mut found = Found {
         natures: Vec::new(alloc),

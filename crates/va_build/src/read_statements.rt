@@ -8,7 +8,7 @@ ghost use Rattle.va_base.specs.Expansion.{IsExpanded};
 ghost use Rattle.va_build.specs.Reading.{Reads, first_tree, trees};
 ghost use Rattle.std.specs.Option.{is_some};
 ghost use Rattle.va_build.specs.StatementHeads.{else_statements};
-ghost use Rattle.va_build.specs.SourceStatements.{statement as statement_lem, statements as statements_lem, else_branch as else_branch_lem, case_items as case_items_lem, case_item as case_item_lem, case_defaults as case_defaults_lem, case_default as case_default_lem};
+ghost use Rattle.va_build.specs.SourceStatements as source_statements;
 
 use crate::done::{
     close_block, close_case, close_default, close_if, close_if_else, close_item, close_turn, last,
@@ -31,7 +31,7 @@ pub(crate) fn statement(
     done: &mut Vec<Stmt>,
 ) -> Result<(), AllocError>
     requires { IsExpanded e.now }
-    ensures { OnOk result (Reads (λ at t. done.old.items ++ statement_lem e.now at t ∷ []) reader.old reader.new done.new.items) }
+    ensures { OnOk result (Reads (λ at t. done.old.items ++ source_statements.statement e.now at t ∷ []) reader.old reader.new done.new.items) }
 {
     match reader.next_row() {
         Some(row::BLOCK) => block(alloc, e, reader, done),
@@ -50,7 +50,7 @@ fn other(
     done: &mut Vec<Stmt>,
 ) -> Result<(), AllocError>
     requires { IsExpanded e.now }
-    ensures { OnOk result (Reads (λ at t. done.old.items ++ statement_lem e.now at t ∷ []) reader.old reader.new done.new.items) }
+    ensures { OnOk result (Reads (λ at t. done.old.items ++ source_statements.statement e.now at t ∷ []) reader.old reader.new done.new.items) }
 {
     if !begins_turn(reader) {
         return simple_done(alloc, e, reader, done);
@@ -69,7 +69,7 @@ fn simple_done(
     done: &mut Vec<Stmt>,
 ) -> Result<(), AllocError>
     requires { IsExpanded e.now }
-    ensures { OnOk result (Reads (λ at t. done.old.items ++ statement_lem e.now at t ∷ []) reader.old reader.new done.new.items) }
+    ensures { OnOk result (Reads (λ at t. done.old.items ++ source_statements.statement e.now at t ∷ []) reader.old reader.new done.new.items) }
 {
     let value = simple(alloc, e, reader)?;
     done.push(value)?;
@@ -85,7 +85,7 @@ fn block(
     done: &mut Vec<Stmt>,
 ) -> Result<(), AllocError>
     requires { IsExpanded e.now }
-    ensures { OnOk result (Reads (λ at t. done.old.items ++ statement_lem e.now at t ∷ []) reader.old reader.new done.new.items) }
+    ensures { OnOk result (Reads (λ at t. done.old.items ++ source_statements.statement e.now at t ∷ []) reader.old reader.new done.new.items) }
 {
     reader.take(row::BLOCK)?;
     let at = reader.token()?;
@@ -107,7 +107,7 @@ fn statements(
     done: &mut Vec<Stmt>,
 ) -> Result<(), AllocError>
     requires { IsExpanded e.now }
-    ensures { OnOk result (Reads (λ at t. done.old.items ++ statements_lem e.now at t) reader.old reader.new done.new.items) }
+    ensures { OnOk result (Reads (λ at t. done.old.items ++ source_statements.statements e.now at t) reader.old reader.new done.new.items) }
 {
     loop {
         match reader.row()? {
@@ -127,7 +127,7 @@ fn if_statement(
     done: &mut Vec<Stmt>,
 ) -> Result<(), AllocError>
     requires { IsExpanded e.now }
-    ensures { OnOk result (Reads (λ at t. done.old.items ++ statement_lem e.now at t ∷ []) reader.old reader.new done.new.items) }
+    ensures { OnOk result (Reads (λ at t. done.old.items ++ source_statements.statement e.now at t ∷ []) reader.old reader.new done.new.items) }
 {
     let test = if_head(alloc, e, reader)?;
     statement(alloc, e, reader, done)?;
@@ -150,7 +150,7 @@ fn else_branch(
 ) -> Result<bool, AllocError>
     requires { IsExpanded e.now }
     ensures read { OnOk result (Reads (λ at t. done.old.items ++ else_statements e.now at t) reader.old reader.new done.new.items) }
-    ensures found { IfOk result (λ b. b ≡ is_some (else_branch_lem e.now reader.old.at (first_tree (trees reader.old)))) }
+    ensures found { IfOk result (λ b. b ≡ is_some (source_statements.else_branch e.now reader.old.at (first_tree (trees reader.old)))) }
 {
     match reader.row()? {
         row::ELSE => {
@@ -172,7 +172,7 @@ fn case_statement(
     done: &mut Vec<Stmt>,
 ) -> Result<(), AllocError>
     requires { IsExpanded e.now }
-    ensures { OnOk result (Reads (λ at t. done.old.items ++ statement_lem e.now at t ∷ []) reader.old reader.new done.new.items) }
+    ensures { OnOk result (Reads (λ at t. done.old.items ++ source_statements.statement e.now at t ∷ []) reader.old reader.new done.new.items) }
 {
     let selector = case_head(alloc, e, reader)?;
     let mut items = Vec::new(alloc);
@@ -194,8 +194,8 @@ fn case_parts(
     defaults: &mut Vec<CaseDefault>,
 ) -> Result<(), AllocError>
     requires { IsExpanded e.now }
-    ensures items { OnOk result (Reads (λ at t. items.old.items ++ case_items_lem e.now at t) reader.old reader.new items.new.items) }
-    ensures defaults { OnOk result (Reads (λ at t. defaults.old.items ++ case_defaults_lem e.now at t) reader.old reader.new defaults.new.items) }
+    ensures items { OnOk result (Reads (λ at t. items.old.items ++ source_statements.case_items e.now at t) reader.old reader.new items.new.items) }
+    ensures defaults { OnOk result (Reads (λ at t. defaults.old.items ++ source_statements.case_defaults e.now at t) reader.old reader.new defaults.new.items) }
     ensures done { OnOk result (done.new.items ≡ done.old.items) }
 {
     loop {
@@ -220,8 +220,8 @@ fn case_item(
     items: &mut Vec<CaseItem>,
 ) -> Result<(), AllocError>
     requires { IsExpanded e.now }
-    ensures item { OnOk result (Reads (λ at t. items.old.items ++ case_item_lem e.now at t) reader.old reader.new items.new.items) }
-    ensures only { OnOk result (case_default_lem e.now reader.old.at (first_tree (trees reader.old)) ≡ []) }
+    ensures item { OnOk result (Reads (λ at t. items.old.items ++ source_statements.case_item e.now at t) reader.old reader.new items.new.items) }
+    ensures only { OnOk result (source_statements.case_default e.now reader.old.at (first_tree (trees reader.old)) ≡ []) }
     ensures done { OnOk result (done.new.items ≡ done.old.items) }
 {
     reader.take(row::CASE_ITEM)?;
@@ -244,8 +244,8 @@ fn case_default(
     defaults: &mut Vec<CaseDefault>,
 ) -> Result<(), AllocError>
     requires { IsExpanded e.now }
-    ensures item { OnOk result (Reads (λ at t. defaults.old.items ++ case_default_lem e.now at t) reader.old reader.new defaults.new.items) }
-    ensures only { OnOk result (case_item_lem e.now reader.old.at (first_tree (trees reader.old)) ≡ []) }
+    ensures item { OnOk result (Reads (λ at t. defaults.old.items ++ source_statements.case_default e.now at t) reader.old reader.new defaults.new.items) }
+    ensures only { OnOk result (source_statements.case_item e.now reader.old.at (first_tree (trees reader.old)) ≡ []) }
     ensures done { OnOk result (done.new.items ≡ done.old.items) }
 {
     reader.take(row::DEFAULT)?;
@@ -263,7 +263,7 @@ pub(crate) fn one_statement(
     reader: &mut Reader<'_>,
 ) -> Result<Stmt, AllocError>
     requires { IsExpanded e.now }
-    ensures { IfOk result (λ v. Reads (statement_lem e.now) reader.old reader.new v) }
+    ensures { IfOk result (λ v. Reads (source_statements.statement e.now) reader.old reader.new v) }
 {
     let mut done = Vec::new(alloc);
     statement(alloc, e, reader, &mut done)?;

@@ -9,9 +9,11 @@ ghost use Rattle.va_base.specs.Expansion.{IsExpanded};
 ghost use Rattle.va_base.specs.declared.fault.Fault.{Fault};
 ghost use Rattle.va_grammar.specs.Kinds.{kinds_of};
 ghost use Rattle.va_grammar.specs.Sets.{va_rules};
-ghost use Rattle.va_build.specs.SizeFaults.{is_long, IsFirst, IsLong, IsFaultAt, sooner as sooner_lem, first_of, earliest as earliest_lem};
+ghost use Rattle.va_build.specs.SizeFaults.{IsFirst, IsLong, IsFaultAt};
+ghost use Rattle.va_build.specs.SizeFaults as faults;
 ghost use Rattle.va_build.specs.SourceOf.{IsSourceOf};
-ghost use Rattle.va_tree.specs.Size.{word_len as word_len_lem, counted_len as counted_len_lem, LeastSizeFault, IsWithinSize};
+ghost use Rattle.va_tree.specs.Size.{LeastSizeFault, IsWithinSize};
+ghost use Rattle.va_tree.specs.Size as limits;
 ghost use Rattle.va_tree.specs.declared.source.Source.{Source};
 
 use crate::size_scan::{Found, scan};
@@ -55,7 +57,7 @@ pub(crate) struct Standing {
 
 /// The earliest of the faults that were found.
 fn earliest(found: Found, long: Option<u32>) -> Option<Standing>
-    ensures { result ≡ earliest_lem found.deep long found.extra }
+    ensures { result ≡ faults.earliest found.deep long found.extra }
 {
     let deep = fault_of(FaultCode::TooDeep, found.deep);
     let length = fault_of(FaultCode::TooLong, long);
@@ -65,7 +67,7 @@ fn earliest(found: Found, long: Option<u32>) -> Option<Standing>
 
 /// The fault of this code, where there is one.
 fn fault_of(code: FaultCode, at: Option<u32>) -> Option<Standing>
-    ensures { result ≡ first_of code at }
+    ensures { result ≡ faults.first_of code at }
 {
     match at {
         None => None,
@@ -75,7 +77,7 @@ fn fault_of(code: FaultCode, at: Option<u32>) -> Option<Standing>
 
 /// The one at the lower token, and the first where both are at one.
 fn sooner(a: Option<Standing>, b: Option<Standing>) -> Option<Standing>
-    ensures { result ≡ sooner_lem a b }
+    ensures { result ≡ faults.sooner a b }
 {
     match (a, b) {
         (None, _) => b,
@@ -116,7 +118,7 @@ fn first_long(e: &Expanded) -> Option<u32>
 /// Whether the token with this index is a word or a string that is too long.
 fn long_at(e: &Expanded, at: u32) -> bool
     requires { IsExpanded e.now }
-    ensures { result ≡ is_long e.now at }
+    ensures { result ≡ faults.is_long e.now at }
 {
     match e.tokens.as_list().get(at as usize) {
         Some(token) => is_too_long(token.kind, e.bytes(token)),
@@ -126,14 +128,14 @@ fn long_at(e: &Expanded, at: u32) -> bool
 
 /// Whether a token of these bytes is a word or a string that is too long.
 fn is_too_long(kind: TokenKind, bytes: &[u8]) -> bool
-    ensures { result ≡ nat_lt 1024 (counted_len_lem kind bytes.now) }
+    ensures { result ≡ nat_lt 1024 (limits.counted_len kind bytes.now) }
 {
     counted_len(kind, bytes) > LONGEST
 }
 
 /// The length of a token that the limit counts: of a word without the `\` of its escaped form, and of a string between its quotes.
 fn counted_len(kind: TokenKind, bytes: &[u8]) -> usize
-    ensures { result ≡ counted_len_lem kind bytes.now }
+    ensures { result ≡ limits.counted_len kind bytes.now }
 {
     match kind {
         TokenKind::Word => word_len(bytes),
@@ -144,7 +146,7 @@ fn counted_len(kind: TokenKind, bytes: &[u8]) -> usize
 
 /// The length of a word without the `\` of its escaped form.
 fn word_len(bytes: &[u8]) -> usize
-    ensures { result ≡ word_len_lem bytes.now }
+    ensures { result ≡ limits.word_len bytes.now }
 {
     match bytes.split_first() {
         Some((b'\\', rest)) => rest.len(),

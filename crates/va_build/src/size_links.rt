@@ -3,7 +3,7 @@ ghost use Rattle.std.specs.Prelude.{◌≡◌, [], ◌∷◌, reverse, get_or, m
 ghost use Rattle.va_grammar.specs.Parts.{symbol_of};
 ghost use Rattle.va_build.specs.Reading.{row_symbols};
 ghost use Rattle.va_build.specs.SizeRows.{links_of};
-ghost use Rattle.va_build.specs.SizeLinks.{shape_of, no_tail, tail_by, tail_here as tail_here_lem, link_by, link_here as link_here_lem, tails_behind};
+ghost use Rattle.va_build.specs.SizeLinks as chains;
 
 use crate::size_rules::row_parts;
 use predict::ParseNode;
@@ -34,8 +34,8 @@ pub(crate) fn tree_links(alloc: Global, nodes: &[ParseNode]) -> Result<Vec<u32>,
 
 /// Puts a tree of this row in place of the trees below it, which are the last ones, its first one at the end.
 fn join(tails: &mut Vec<Tail>, links: &mut Vec<u32>, row: u16) -> Result<(), AllocError>
-    ensures tails { OnOk result (reverse tails.new.items ≡ tail_here_lem (row_symbols row) (get_or (reverse tails.old.items) 1 no_tail) ∷ tails_behind (row_symbols row) (reverse tails.old.items)) }
-    ensures links { OnOk result (reverse links.new.items ≡ link_here_lem row (row_symbols row) (get_or (reverse tails.old.items) 1 no_tail) ∷ reverse links.old.items) }
+    ensures tails { OnOk result (reverse tails.new.items ≡ chains.tail_here (row_symbols row) (get_or (reverse tails.old.items) 1 chains.no_tail) ∷ chains.tails_behind (row_symbols row) (reverse tails.old.items)) }
+    ensures links { OnOk result (reverse links.new.items ≡ chains.link_here row (row_symbols row) (get_or (reverse tails.old.items) 1 chains.no_tail) ∷ reverse links.old.items) }
 {
     let parts = row_parts(row);
     let second = second_tail(tails.as_slice());
@@ -50,7 +50,7 @@ fn join(tails: &mut Vec<Tail>, links: &mut Vec<u32>, row: u16) -> Result<(), All
 
 /// The second tree, counted from the end.
 fn second_tail(tails: &[Tail]) -> Tail
-    ensures { result ≡ get_or (reverse tails.now) 1 no_tail }
+    ensures { result ≡ get_or (reverse tails.now) 1 chains.no_tail }
 {
     let count = tails.len();
     if count < 2 {
@@ -65,7 +65,7 @@ fn second_tail(tails: &[Tail]) -> Tail
 
 /// Takes the trees below a row with these parts away.
 fn drop_trees(tails: &mut Vec<Tail>, parts: &[Part])
-    ensures { reverse tails.new.items ≡ tails_behind (map symbol_of parts.now) (reverse tails.old.items) }
+    ensures { reverse tails.new.items ≡ chains.tails_behind (map symbol_of parts.now) (reverse tails.old.items) }
 {
     for part in parts {
         drop_tree(tails, *part);
@@ -74,7 +74,7 @@ fn drop_trees(tails: &mut Vec<Tail>, parts: &[Part])
 
 /// Takes a tree away, where the part is a nonterminal.
 fn drop_tree(tails: &mut Vec<Tail>, part: Part)
-    ensures { reverse tails.new.items ≡ tails_behind (symbol_of part ∷ []) (reverse tails.old.items) }
+    ensures { reverse tails.new.items ≡ chains.tails_behind (symbol_of part ∷ []) (reverse tails.old.items) }
 {
     if let Part::Rule(_) = part {
         tails.pop();
@@ -96,7 +96,7 @@ pub(crate) enum Shape {
 
 /// How the parts of a row follow each other.
 fn parts_shape(parts: &[Part]) -> Shape
-    ensures { result ≡ shape_of (map symbol_of parts.now) }
+    ensures { result ≡ chains.shape_of (map symbol_of parts.now) }
 {
     match parts {
         [Part::Rule(_), Part::Rule(_)] => Shape::Pair,
@@ -108,7 +108,7 @@ fn parts_shape(parts: &[Part]) -> Shape
 
 /// What a row of this shape is, where its second tree is this.
 fn tail_here(shape: Shape, second: Tail) -> Result<Tail, AllocError>
-    ensures { IfOk result (λ t. t ≡ tail_by shape second) }
+    ensures { IfOk result (λ t. t ≡ chains.tail_by shape second) }
 {
     match shape {
         Shape::Operator => {
@@ -131,7 +131,7 @@ fn tail_here(shape: Shape, second: Tail) -> Result<Tail, AllocError>
 
 /// The links of a row of this shape, where its second tree is this.
 fn link_here(row: u16, shape: Shape, second: Tail) -> Result<u32, AllocError>
-    ensures { IfOk result (λ n. n ≡ link_by row shape second) }
+    ensures { IfOk result (λ n. n ≡ chains.link_by row shape second) }
 {
     match shape {
         Shape::Pair => {

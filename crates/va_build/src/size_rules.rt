@@ -3,7 +3,7 @@ ghost use Rattle.std.specs.Prelude.{◌≡◌, ◌==◌, if◌then◌else◌, ma
 ghost use Rattle.va_grammar.specs.Parts.{symbol_of};
 ghost use Rattle.va_build.specs.Reading.{row_symbols};
 ghost use Rattle.va_build.specs.SizeDeep.{if_deep, deep_row};
-ghost use Rattle.va_build.specs.SizeRows.{does_open, does_chain, does_follow, rule_of, deep_opened, depth_below as depth_below_lem, depth_last as depth_last_lem};
+ghost use Rattle.va_build.specs.SizeRows as depths;
 
 use predict::Symbol;
 use std::alloc::AllocError;
@@ -85,7 +85,7 @@ pub(crate) fn row_parts(row: u16) -> &'static [Part]
 
 /// What a row of this nonterminal does.
 pub(crate) fn row_rule(left: u16, row: u16) -> Rule
-    ensures { result ≡ rule_of left row }
+    ensures { result ≡ depths.rule_of left row }
 {
     match left {
         STATEMENT | PRIMARY => Rule::Opens,
@@ -132,7 +132,7 @@ fn row_deep(at: u32, depth: u32, count: u32) -> Option<u32>
 /// Where the first node of depth 501 begins among those that begin with a row, if there is one. Here the row has this depth
 /// and so many links, and its first token this index.
 pub(crate) fn opened(rule: Rule, at: u32, depth: u32, links: u32) -> Option<u32>
-    ensures { result ≡ deep_opened rule at depth links }
+    ensures { result ≡ depths.deep_opened rule at depth links }
 {
     match rule {
         Rule::Opens => one_deep(at, depth),
@@ -143,7 +143,7 @@ pub(crate) fn opened(rule: Rule, at: u32, depth: u32, links: u32) -> Option<u32>
 
 /// The depth of the parts of a row but for the last.
 pub(crate) fn depth_below(rule: Rule, depth: u32, links: u32) -> Result<u32, AllocError>
-    ensures { IfOk result (λ d. d ≡ depth_below_lem rule depth links) }
+    ensures { IfOk result (λ d. d ≡ depths.depth_below rule depth links) }
 {
     match rule {
         Rule::Passes => Ok(depth),
@@ -154,7 +154,7 @@ pub(crate) fn depth_below(rule: Rule, depth: u32, links: u32) -> Result<u32, All
 
 /// The depth of the last part of a row.
 pub(crate) fn depth_last(rule: Rule, depth: u32) -> Result<u32, AllocError>
-    ensures { IfOk result (λ d. d ≡ depth_last_lem rule depth) }
+    ensures { IfOk result (λ d. d ≡ depths.depth_last rule depth) }
 {
     match rule {
         Rule::Opens | Rule::Chooses => depth.checked_add(1).ok_or(AllocError),

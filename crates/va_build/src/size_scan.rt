@@ -8,7 +8,7 @@ ghost use Rattle.va_base.specs.declared.expanded.Expanded.{Expanded};
 ghost use Rattle.va_grammar.specs.Parts.{symbol_of};
 ghost use Rattle.va_build.specs.Reading.{row_symbols, trees_of, first_tree};
 ghost use Rattle.va_build.specs.SizeDeep.{earlier};
-ghost use Rattle.va_build.specs.SizeRows.{depth_below as depth_below_lem, depth_last as depth_last_lem, due as due_lem, dues, name_opened, deep_in, modules_in};
+ghost use Rattle.va_build.specs.SizeRows as depths;
 ghost use Rattle.va_build.specs.SizeScan.{AreDerived, many, NothingDue, ComesNext, due_parts};
 
 use crate::size_links::tree_links;
@@ -33,8 +33,8 @@ pub(crate) struct Found {
 /// Looks through a parse tree.
 pub(crate) fn scan(alloc: Global, nodes: &[ParseNode]) -> Result<Found, AllocError>
     requires { AreDerived (Left 0 ∷ []) (trees_of nodes.now) }
-    ensures deep { IfOk result (λ f. (e : Expanded) → f.deep ≡ deep_in e 0 1 0 (first_tree (trees_of nodes.now))) }
-    ensures extra { IfOk result (λ f. (e : Expanded) → f.extra ≡ slice_get (modules_in e 0 0 (first_tree (trees_of nodes.now))) 64) }
+    ensures deep { IfOk result (λ f. (e : Expanded) → f.deep ≡ depths.deep_in e 0 1 0 (first_tree (trees_of nodes.now))) }
+    ensures extra { IfOk result (λ f. (e : Expanded) → f.extra ≡ slice_get (depths.modules_in e 0 0 (first_tree (trees_of nodes.now))) 64) }
 {
     let mut links = tree_links(alloc, nodes)?;
     let mut ahead = begin(alloc)?;
@@ -85,7 +85,7 @@ struct Names {
 impl Names {
     /// Counts a module, where one begins at this index: where the nonterminal is that of modules.
     fn count(&mut self, left: u16, at: u32) -> Result<(), AllocError>
-        ensures { OnOk result ((rest : List ℕ) → many self.new.extra self.new.room rest ≡ many self.old.extra self.old.room (name_opened left at ++ rest)) }
+        ensures { OnOk result ((rest : List ℕ) → many self.new.extra self.new.room rest ≡ many self.old.extra self.old.room (depths.name_opened left at ++ rest)) }
     {
         if left != Nonterminal::ModuleDeclaration.number() {
             return Ok(());
@@ -119,7 +119,7 @@ struct Ahead {
 
 /// Before a whole text, whose outermost nodes have the depth 1.
 fn begin(alloc: Global) -> Result<Ahead, AllocError>
-    ensures due { IfOk result (λ a. reverse a.due.items ≡ due_lem (Left 0) 1 ∷ []) }
+    ensures due { IfOk result (λ a. reverse a.due.items ≡ depths.due (Left 0) 1 ∷ []) }
     ensures at { IfOk result (λ a. a.at ≡ 0) }
 {
     let mut due = Vec::new(alloc);
@@ -146,7 +146,7 @@ impl Ahead {
 
     /// Lets a nonterminal of this depth give way to a row that does this to depths and has so many links.
     fn open(&mut self, rule: Rule, depth: u32, row: u16, links: u32) -> Result<(), AllocError>
-        ensures due { OnOk result (reverse self.new.due.items ≡ dues (row_symbols row) (depth_below_lem rule depth links) (depth_last_lem rule depth) ++ reverse self.old.due.items) }
+        ensures due { OnOk result (reverse self.new.due.items ≡ depths.dues (row_symbols row) (depths.depth_below rule depth links) (depths.depth_last rule depth) ++ reverse self.old.due.items) }
         ensures at { OnOk result (self.new.at ≡ self.old.at) }
     {
         let below = depth_below(rule, depth, links)?;
@@ -158,7 +158,7 @@ impl Ahead {
 
 /// Puts the parts of a row in front of what is due: the last has one depth, all others have another.
 fn push_row(due: &mut Vec<Due>, parts: &[Part], below: u32, last: u32) -> Result<(), AllocError>
-    ensures { OnOk result (reverse due.new.items ≡ dues (map symbol_of parts.now) below last ++ reverse due.old.items) }
+    ensures { OnOk result (reverse due.new.items ≡ depths.dues (map symbol_of parts.now) below last ++ reverse due.old.items) }
 {
     if let Some((tail, front)) = parts.split_last() {
         push_part(due, *tail, last)?;
@@ -169,7 +169,7 @@ fn push_row(due: &mut Vec<Due>, parts: &[Part], below: u32, last: u32) -> Result
 
 /// Puts a part in front of what is due.
 fn push_part(due: &mut Vec<Due>, part: Part, depth: u32) -> Result<(), AllocError>
-    ensures { OnOk result (reverse due.new.items ≡ due_lem (symbol_of part) depth ∷ reverse due.old.items) }
+    ensures { OnOk result (reverse due.new.items ≡ depths.due (symbol_of part) depth ∷ reverse due.old.items) }
 {
     due.push(Due {
         symbol: part.symbol(),

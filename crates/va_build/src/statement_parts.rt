@@ -5,7 +5,7 @@
 ghost use Rattle.std.specs.Prelude.{◌≡◌, [], ◌∷◌, IfOk};
 ghost use Rattle.va_base.specs.Expansion.{IsExpanded};
 ghost use Rattle.va_build.specs.Reading.{Reads, first_tree, trees};
-ghost use Rattle.va_build.specs.SourceStatements.{second_node as second_node_lem, initialiser as initialiser_lem, variable as variable_lem, more_variables, variables as variables_lem, label as label_lem, declaration as declaration_lem, declarations as declarations_lem, more_values as more_values_lem, more_analyses as more_analyses_lem, analyses as analyses_lem, event_kind, event_analyses, named_statement as named_statement_lem, task_arguments as task_arguments_lem, statement as statement_lem};
+ghost use Rattle.va_build.specs.SourceStatements as source_statements;
 
 use crate::read_expressions::{arguments, expression};
 use crate::read_names::{name_at, named};
@@ -22,7 +22,7 @@ pub(crate) fn second_node(
     reader: &mut Reader<'_>,
 ) -> Result<Option<NameAt>, AllocError>
     requires { IsExpanded e.now }
-    ensures { IfOk result (λ v. Reads (second_node_lem e.now) reader.old reader.new v) }
+    ensures { IfOk result (λ v. Reads (source_statements.second_node e.now) reader.old reader.new v) }
 {
     match reader.row()? {
         row::SECOND_NODE => {
@@ -42,7 +42,7 @@ fn initialiser(
     reader: &mut Reader<'_>,
 ) -> Result<Option<Expr>, AllocError>
     requires { IsExpanded e.now }
-    ensures { IfOk result (λ v. Reads (initialiser_lem e.now) reader.old reader.new v) }
+    ensures { IfOk result (λ v. Reads (source_statements.initialiser e.now) reader.old reader.new v) }
 {
     match reader.row()? {
         row::INITIALISER => {
@@ -58,7 +58,7 @@ fn initialiser(
 /// A variable.
 fn variable(alloc: Global, e: &Expanded, reader: &mut Reader<'_>) -> Result<Variable, AllocError>
     requires { IsExpanded e.now }
-    ensures { IfOk result (λ v. Reads (variable_lem e.now) reader.old reader.new (v ∷ [])) }
+    ensures { IfOk result (λ v. Reads (source_statements.variable e.now) reader.old reader.new (v ∷ [])) }
 {
     reader.take(row::VARIABLE)?;
     let name = named(alloc, e, reader)?;
@@ -73,7 +73,7 @@ pub(crate) fn variables(
     reader: &mut Reader<'_>,
 ) -> Result<Vec<Variable>, AllocError>
     requires { IsExpanded e.now }
-    ensures { IfOk result (λ v. Reads (variables_lem e.now) reader.old reader.new v.items) }
+    ensures { IfOk result (λ v. Reads (source_statements.variables e.now) reader.old reader.new v.items) }
 {
     reader.take(row::VARIABLES)?;
     let first = variable(alloc, e, reader)?;
@@ -89,7 +89,7 @@ fn variables_behind(
     first: Variable,
 ) -> Result<Vec<Variable>, AllocError>
     requires { IsExpanded e.now }
-    ensures { IfOk result (λ v. Reads (λ at t. first ∷ more_variables e.now at t) reader.old reader.new v.items) }
+    ensures { IfOk result (λ v. Reads (λ at t. first ∷ source_statements.more_variables e.now at t) reader.old reader.new v.items) }
 {
     let mut list = vec![in alloc; first]?;
     loop {
@@ -112,7 +112,7 @@ pub(crate) fn label(
     reader: &mut Reader<'_>,
 ) -> Result<Option<NameAt>, AllocError>
     requires { IsExpanded e.now }
-    ensures { IfOk result (λ v. Reads (label_lem e.now) reader.old reader.new v) }
+    ensures { IfOk result (λ v. Reads (source_statements.label e.now) reader.old reader.new v) }
 {
     match reader.row()? {
         row::LABEL => {
@@ -132,7 +132,7 @@ fn declaration(
     reader: &mut Reader<'_>,
 ) -> Result<Declaration, AllocError>
     requires { IsExpanded e.now }
-    ensures { IfOk result (λ v. Reads (declaration_lem e.now) reader.old reader.new (v ∷ [])) }
+    ensures { IfOk result (λ v. Reads (source_statements.declaration e.now) reader.old reader.new (v ∷ [])) }
 {
     let row = reader.row()?;
     let at = reader.token()?;
@@ -165,7 +165,7 @@ pub(crate) fn declarations(
     reader: &mut Reader<'_>,
 ) -> Result<Vec<Declaration>, AllocError>
     requires { IsExpanded e.now }
-    ensures { IfOk result (λ v. Reads (declarations_lem e.now) reader.old reader.new v.items) }
+    ensures { IfOk result (λ v. Reads (source_statements.declarations e.now) reader.old reader.new v.items) }
 {
     let mut list = Vec::new(alloc);
     loop {
@@ -188,7 +188,7 @@ pub(crate) fn values_behind(
     first: Expr,
 ) -> Result<Vec<Expr>, AllocError>
     requires { IsExpanded e.now }
-    ensures { IfOk result (λ v. Reads (λ at t. first ∷ more_values_lem e.now at t) reader.old reader.new v.items) }
+    ensures { IfOk result (λ v. Reads (λ at t. first ∷ source_statements.more_values e.now at t) reader.old reader.new v.items) }
 {
     let mut list = vec![in alloc; first]?;
     loop {
@@ -212,7 +212,7 @@ fn analyses_behind(
     first: NameAt,
 ) -> Result<Vec<NameAt>, AllocError>
     requires { IsExpanded e.now }
-    ensures { IfOk result (λ v. Reads (λ at t. first ∷ more_analyses_lem e.now at t) reader.old reader.new v.items) }
+    ensures { IfOk result (λ v. Reads (λ at t. first ∷ source_statements.more_analyses e.now at t) reader.old reader.new v.items) }
 {
     let mut list = vec![in alloc; first]?;
     loop {
@@ -231,7 +231,7 @@ fn analyses_behind(
 /// The analyses of an event, if it lists any.
 fn analyses(alloc: Global, e: &Expanded, reader: &mut Reader<'_>) -> Result<Vec<NameAt>, AllocError>
     requires { IsExpanded e.now }
-    ensures { IfOk result (λ v. Reads (analyses_lem e.now) reader.old reader.new v.items) }
+    ensures { IfOk result (λ v. Reads (source_statements.analyses e.now) reader.old reader.new v.items) }
 {
     match reader.row()? {
         row::ANALYSES => {
@@ -260,8 +260,8 @@ pub(crate) fn event(
     reader: &mut Reader<'_>,
 ) -> Result<EventHead, AllocError>
     requires { IsExpanded e.now }
-    ensures analyses { IfOk result (λ v. Reads (event_analyses e.now) reader.old reader.new v.analyses.items) }
-    ensures event { IfOk result (λ v. v.event ≡ event_kind (first_tree (trees reader.old))) }
+    ensures analyses { IfOk result (λ v. Reads (source_statements.event_analyses e.now) reader.old reader.new v.analyses.items) }
+    ensures event { IfOk result (λ v. v.event ≡ source_statements.event_kind (first_tree (trees reader.old))) }
 {
     match reader.row()? {
         row::INITIAL_STEP => {
@@ -292,7 +292,7 @@ fn named_statement(
     at: u32,
 ) -> Result<Stmt, AllocError>
     requires { IsExpanded e.now }
-    ensures { IfOk result (λ v. Reads (named_statement_lem e.now at) reader.old reader.new v) }
+    ensures { IfOk result (λ v. Reads (source_statements.named_statement e.now at) reader.old reader.new v) }
 {
     let name = name_at(alloc, e, at)?;
     match reader.row()? {
@@ -333,7 +333,7 @@ fn task_arguments(
     reader: &mut Reader<'_>,
 ) -> Result<Vec<Arg>, AllocError>
     requires { IsExpanded e.now }
-    ensures { IfOk result (λ v. Reads (task_arguments_lem e.now) reader.old reader.new v.items) }
+    ensures { IfOk result (λ v. Reads (source_statements.task_arguments e.now) reader.old reader.new v.items) }
 {
     match reader.row()? {
         row::TASK_ARGUMENTS => {
@@ -354,7 +354,7 @@ pub(crate) fn simple(
     reader: &mut Reader<'_>,
 ) -> Result<Stmt, AllocError>
     requires { IsExpanded e.now }
-    ensures { IfOk result (λ v. Reads (statement_lem e.now) reader.old reader.new v) }
+    ensures { IfOk result (λ v. Reads (source_statements.statement e.now) reader.old reader.new v) }
 {
     match reader.row()? {
         row::NAMED => {

@@ -3,7 +3,6 @@ use Rattle.std.proofs.Common.{◌≡◌, ◌+◌, ℕ, zero, suc, List, [], ◌�
 use Rattle.predict.specs.Sentence.{IsSentence, BeginsSentence, IsFirstBad}
 use Rattle.va_base.specs.declared.expanded.Expanded.{Expanded}
 use Rattle.va_base.specs.declared.fault.Fault.{Fault}
-use Rattle.va_base.specs.declared.fault.FaultCode.{FaultCode}
 use Rattle.va_tree.specs.declared.source.Source.{Source}
 use Rattle.va_tree.specs.Size.{LeastSizeFault, IsWithinSize}
 use Rattle.va_grammar.specs.Kinds.{kinds_of}
@@ -33,8 +32,8 @@ not_faulty e s t fault w is least =
     within fault.at fault.code least.stands.stands
 
 -- the fault that the building of a tree answers
-pub size_front : (e : Expanded) (fault : Fault) (code : FaultCode) → IsSourceFaulty e fault code → IsFrontFault e fault
-size_front e fault code is = inr (record { source = is.faulty; is = is.source; least = is.least })
+pub size_front : (e : Expanded) (fault : Fault) → IsSourceFaulty e fault → IsFrontFault e fault
+size_front e fault is = inr (record { source = is.faulty; is = is.source; least = is.least })
 
 -- a text with a fault is none of those that are compiled
 pub fault_not_built : (e : Expanded) (fault : Fault) → IsTextFault e fault → IsBuilt e → ⊥

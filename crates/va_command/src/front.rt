@@ -45,9 +45,7 @@ fn source_of_tree(alloc: Global, tree: &ParseTree, e: &Expanded) -> Result<Sourc
 {
     match build(alloc, tree, e) {
         Ok(source) => Ok(source),
-        Err(TreeErr::TooDeep(fault)) => Err(FrontErr::Fault(fault)),
-        Err(TreeErr::TooLong(fault)) => Err(FrontErr::Fault(fault)),
-        Err(TreeErr::ModulesMany(fault)) => Err(FrontErr::Fault(fault)),
+        Err(TreeErr::Fault(fault)) => Err(FrontErr::Fault(fault)),
         Err(TreeErr::NoMemory) => Err(FrontErr::NoMemory),
     }
 }
