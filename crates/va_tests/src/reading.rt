@@ -65,9 +65,7 @@ pub fn read(alloc: Global, text: &str) -> Result<Reading, Fail> {
     match parsed(alloc, &expanded)? {
         Ok(tree) => match build(alloc, &tree, &expanded) {
             Ok(source) => Ok(Reading::Source(source)),
-            Err(TreeErr::TooDeep(fault)) => Ok(Reading::Size(fault)),
-            Err(TreeErr::TooLong(fault)) => Ok(Reading::Size(fault)),
-            Err(TreeErr::ModulesMany(fault)) => Ok(Reading::Size(fault)),
+            Err(TreeErr::Fault(fault)) => Ok(Reading::Size(fault)),
             Err(TreeErr::NoMemory) => Err("no memory for the source".into()),
         },
         Err(at) => {
