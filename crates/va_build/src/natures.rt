@@ -40,7 +40,7 @@ fn parent(
 /// A semicolon, if there is one.
 pub(crate) fn semicolon(reader: &mut Reader<'_>)
     requires due { IsDue nonterminal.OptionalSemicolon reader.old }
-    ensures { Reads {Unit {0}} (λ _ _. tt) reader.old reader.new tt }
+    ensures { Reads {X = Unit {0}} (λ _ _. tt) reader.old reader.new tt }
 {
     match reader.enter() {
         row::SEMICOLON => {
