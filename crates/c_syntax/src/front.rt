@@ -23,7 +23,7 @@ pub struct FrontToken {
 }
 
 fn word(text: &[u8]) -> Option<FrontToken>
-    requires { IsTrue (begins is_letter text.now) }
+    requires { IsTrue (base.begins is_letter text.now) }
     ensures { result ≡ fronts.front_of text.now }
 {
     Some(FrontToken {
@@ -33,7 +33,7 @@ fn word(text: &[u8]) -> Option<FrontToken>
 }
 
 fn number(text: &[u8]) -> Option<FrontToken>
-    requires { IsTrue (begins is_digit text.now) }
+    requires { IsTrue (base.begins is_digit text.now) }
     ensures { result ≡ fronts.front_of text.now }
 {
     let digits = front_len::<Digit>(text);
@@ -48,7 +48,7 @@ fn number(text: &[u8]) -> Option<FrontToken>
 
 /// `#include` and its line.
 fn include(text: &[u8]) -> Option<FrontToken>
-    requires { IsTrue (begins (λ first. first == 35) text.now) }
+    requires { IsTrue (base.begins (λ first. first == 35) text.now) }
     ensures { result ≡ fronts.front_of text.now }
 {
     let rest = &text[1..];
@@ -83,7 +83,7 @@ fn name_len(text: &[u8]) -> usize
 
 /// The name of a field.
 fn field(text: &[u8]) -> Option<FrontToken>
-    requires { IsTrue (begins (λ first. first == 46) text.now) }
+    requires { IsTrue (base.begins (λ first. first == 46) text.now) }
     ensures { result ≡ fronts.front_of text.now }
 {
     if !begins_name(text) {
@@ -161,7 +161,7 @@ fn string_rest_len(rest: &[u8]) -> Option<usize>
 }
 
 fn string(text: &[u8]) -> Option<FrontToken>
-    requires { IsTrue (begins (λ first. first == 34) text.now) }
+    requires { IsTrue (base.begins (λ first. first == 34) text.now) }
     ensures { result ≡ fronts.front_of text.now }
 {
     match string_rest_len(&text[1..]) {
