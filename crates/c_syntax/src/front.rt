@@ -238,7 +238,7 @@ fn mark_len(text: &[u8]) -> Option<usize>
 }
 
 fn mark(text: &[u8]) -> Option<FrontToken>
-    requires { IsTrue (begins fronts.is_other_byte text.now) }
+    requires { IsTrue (base.begins fronts.is_other_byte text.now) }
     ensures { result ≡ fronts.front_of text.now }
 {
     match mark_len(text) {
