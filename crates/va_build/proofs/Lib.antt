@@ -1,7 +1,6 @@
 pub mod TakenRows
 pub mod OperatorRows
 pub mod HeadRows
-pub mod DueRows
 pub mod ListEnds
 pub mod DoneStatements
 pub mod TreesBack

@@ -13,8 +13,7 @@ use Rattle.va_build.specs.Reading.{row_symbols, parts_from, first_tree, later_tr
 use Rattle.va_grammar.specs.Sets.{va_grammar, va_rules}
 use Rattle.va_build.specs.SizeDeep.{earlier}
 use Rattle.va_build.specs.SizeRows.{links, rule_of, deep_opened, depth_below, depth_last, due, dues, name_opened, deep_in, modules_in, deep_due, modules_due}
-use Rattle.va_build.specs.Due.{AreDerived}
-use Rattle.va_build.specs.SizeScan.{symbols_due, due_parts, SameDue}
+use Rattle.va_build.specs.SizeScan.{AreDerived, symbols_due, due_parts, SameDue}
 use Rattle.va_build.specs.Width.{width, width_of}
 use Rattle.va_grammar.specs.declared.rows.Part.{Part}
 use Rattle.va_build.specs.declared.size_rules.Due.{Due}

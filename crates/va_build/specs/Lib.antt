@@ -5,7 +5,6 @@ pub mod SourceStatements
 pub mod SourceItems
 pub mod SourceOf
 pub mod Reading
-pub mod Due
 pub mod StatementHeads
 pub mod AttributeLists
 pub mod Directions

@@ -2,14 +2,22 @@
 -- contract names them.
 use Rattle.std.specs.Prelude.{◌≡◌, ℕ, ◌∷◌, [], List, map, Option, Some, None, slice_get}
 use Rattle.predict.specs.declared.symbol.Symbol.{Symbol}
-use Rattle.predict.specs.declared.symbol.Symbol.TheVariants.{Left}
+use Rattle.predict.specs.declared.symbol.Symbol.TheVariants.{Kind, Left}
+use Rattle.predict.specs.Sentence.{IsTreeOf}
 use Rattle.predict.specs.Tree.{Tree}
 use Rattle.va_base.specs.declared.expanded.Expanded.{Expanded}
 use Rattle.va_grammar.specs.Parts.{symbol_of}
-use Rattle.va_build.specs.Due.{AreDerived}
+use Rattle.va_build.specs.Reading.{first_tree, later_trees}
+use Rattle.va_grammar.specs.Sets.{va_rules}
 use Rattle.va_build.specs.SizeRows.{due, deep_due, modules_due}
 use Rattle.va_grammar.specs.declared.rows.Part.{Part}
 use Rattle.va_build.specs.declared.size_rules.Due.{Due}
+
+-- the first of the trees are derived from the nonterminals among the symbols
+abbrev pub AreDerived : List Symbol → List Tree → Type 0
+AreDerived [] ts = Unit {0}
+AreDerived (Kind k ∷ symbols) ts = AreDerived symbols ts
+AreDerived (Left l ∷ symbols) ts = ((next : ℕ) × IsTreeOf va_rules l (first_tree ts) next) × AreDerived symbols (later_trees ts)
 
 -- the one that is found, or the one behind so many of the names ahead
 abbrev pub many : Option ℕ → ℕ → List ℕ → Option ℕ

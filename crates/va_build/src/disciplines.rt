@@ -1,10 +1,9 @@
 //! Reading disciplines (Disciplines).
 //!
-//! Each function takes the next tree of the parse tree, and its tokens with it.
+//! Each function takes the next tree of the parse tree, and its tokens with it. A row that the nonterminal does not have, which
+//! no parse tree holds, is answered as want of memory is.
 ghost use Rattle.std.specs.Prelude.{◌≡◌, [], ◌∷◌, IfOk};
 ghost use Rattle.va_base.specs.Expansion.{IsExpanded};
-ghost use Rattle.va_grammar.specs.declared.nonterminal.Nonterminal.TheVariants as nonterminal;
-ghost use Rattle.va_build.specs.Due.{IsDue};
 ghost use Rattle.va_build.specs.Reading.{Reads, first_tree, trees};
 ghost use Rattle.va_build.specs.SourceOf as top_level;
 
@@ -25,14 +24,13 @@ fn binding(
     start: u32,
     of: Quantity,
 ) -> Result<DisciplineItem, AllocError>
-    requires expanded { IsExpanded e.now }
-    requires due { IsDue nonterminal.NatureBinding reader.old }
+    requires { IsExpanded e.now }
     ensures { IfOk result (λ v. Reads (top_level.binding e.now start of) reader.old reader.new v) }
 {
-    match reader.enter() {
+    match reader.row()? {
         row::BINDING => {
             let nature = named(alloc, e, reader)?;
-            reader.pass();
+            reader.token()?;
             Ok(DisciplineItem::Binding {
                 at: start,
                 quantity: of,
@@ -40,11 +38,11 @@ fn binding(
             })
         }
         row::OVERRIDE => {
-            reader.pass();
+            reader.token()?;
             let name = named(alloc, e, reader)?;
-            reader.pass();
+            reader.token()?;
             let value = argument(alloc, e, reader)?;
-            reader.pass();
+            reader.token()?;
             Ok(DisciplineItem::Override {
                 at: start,
                 quantity: of,
@@ -52,7 +50,7 @@ fn binding(
                 value,
             })
         }
-        _ => unreachable!(),
+        _ => Err(AllocError),
     }
 }
 
@@ -62,28 +60,27 @@ fn discipline_item(
     e: &Expanded,
     reader: &mut Reader<'_>,
 ) -> Result<DisciplineItem, AllocError>
-    requires expanded { IsExpanded e.now }
-    requires due { IsDue nonterminal.DisciplineItem reader.old }
+    requires { IsExpanded e.now }
     ensures { IfOk result (λ v. Reads (top_level.discipline_item e.now) reader.old reader.new v) }
 {
-    match reader.enter() {
+    match reader.row()? {
         row::POTENTIAL => {
-            let start = reader.pass();
+            let start = reader.token()?;
             let value = binding(alloc, e, reader, start, Quantity::Potential)?;
             Ok(value)
         }
         row::FLOW => {
-            let start = reader.pass();
+            let start = reader.token()?;
             let value = binding(alloc, e, reader, start, Quantity::Flow)?;
             Ok(value)
         }
         row::DOMAIN => {
-            let at = reader.pass();
+            let at = reader.token()?;
             let name = named(alloc, e, reader)?;
-            reader.pass();
+            reader.token()?;
             Ok(DisciplineItem::Domain { at, name })
         }
-        _ => unreachable!(),
+        _ => Err(AllocError),
     }
 }
 
@@ -93,19 +90,18 @@ fn discipline_items(
     e: &Expanded,
     reader: &mut Reader<'_>,
 ) -> Result<Vec<DisciplineItem>, AllocError>
-    requires expanded { IsExpanded e.now }
-    requires due { IsDue nonterminal.DisciplineItems reader.old }
+    requires { IsExpanded e.now }
     ensures { IfOk result (λ v. Reads (top_level.discipline_items e.now) reader.old reader.new v.items) }
 {
     let mut list = Vec::new(alloc);
     loop {
-        match reader.enter() {
+        match reader.row()? {
             row::DISCIPLINE_ITEMS => {
                 let next = discipline_item(alloc, e, reader)?;
                 list.push(next)?;
             }
             row::NO_DISCIPLINE_ITEMS => return Ok(list),
-            _ => unreachable!(),
+            _ => return Err(AllocError),
         }
     }
 }
@@ -117,19 +113,18 @@ pub(crate) fn discipline_of(
     reader: &mut Reader<'_>,
     attributes: Vec<AttributeGroup>,
 ) -> Result<Discipline, AllocError>
-    requires expanded { IsExpanded e.now }
-    requires due { IsDue nonterminal.DisciplineDeclaration reader.old }
+    requires { IsExpanded e.now }
     ensures discipline { IfOk result (λ v. Reads (top_level.discipline_of e.now attributes.items) reader.old reader.new (v ∷ [])) }
     ensures no_nature { IfOk result (λ _. top_level.nature e.now attributes.items reader.old.at (first_tree (trees reader.old)) ≡ []) }
     ensures no_module { IfOk result (λ _. top_level.module_of e.now attributes.items reader.old.at (first_tree (trees reader.old)) ≡ []) }
 {
-    reader.enter();
-    reader.pass();
-    let at = reader.pass();
+    reader.take(row::DISCIPLINE)?;
+    reader.token()?;
+    let at = reader.token()?;
     let name = name_at(alloc, e, at)?;
-    semicolon(reader);
+    semicolon(reader)?;
     let items = discipline_items(alloc, e, reader)?;
-    reader.pass();
+    reader.token()?;
     Ok(Discipline {
         attributes: Items::new(attributes),
         at,

@@ -4,8 +4,6 @@
 //! no parse tree holds, is answered as want of memory is.
 ghost use Rattle.std.specs.Prelude.{◌∷◌, IfOk};
 ghost use Rattle.va_base.specs.Expansion.{IsExpanded};
-ghost use Rattle.va_grammar.specs.declared.nonterminal.Nonterminal.TheVariants as nonterminal;
-ghost use Rattle.va_build.specs.Due.{IsDue};
 ghost use Rattle.va_build.specs.Reading.{Reads};
 ghost use Rattle.va_build.specs.SourceItems as source_items;
 ghost use Rattle.va_build.specs.SourceOf as top_level;
@@ -47,18 +45,17 @@ fn port_list(
     e: &Expanded,
     reader: &mut Reader<'_>,
 ) -> Result<Vec<NameAt>, AllocError>
-    requires expanded { IsExpanded e.now }
-    requires due { IsDue nonterminal.PortList reader.old }
+    requires { IsExpanded e.now }
     ensures { IfOk result (λ v. Reads (top_level.port_list e.now) reader.old reader.new v.items) }
 {
-    match reader.enter() {
+    match reader.row()? {
         row::PORT_LIST => {
             let first = named(alloc, e, reader)?;
             let list = names_behind(alloc, e, reader, first)?;
             Ok(list)
         }
         row::NO_PORT_LIST => Ok(Vec::new(alloc)),
-        _ => unreachable!(),
+        _ => Err(AllocError),
     }
 }
 
@@ -68,18 +65,17 @@ pub(crate) fn ports(
     e: &Expanded,
     reader: &mut Reader<'_>,
 ) -> Result<Vec<NameAt>, AllocError>
-    requires expanded { IsExpanded e.now }
-    requires due { IsDue nonterminal.Ports reader.old }
+    requires { IsExpanded e.now }
     ensures { IfOk result (λ v. Reads (top_level.ports e.now) reader.old reader.new v.items) }
 {
-    match reader.enter() {
+    match reader.row()? {
         row::PORTS => {
-            reader.pass();
+            reader.token()?;
             let list = port_list(alloc, e, reader)?;
-            reader.pass();
+            reader.token()?;
             Ok(list)
         }
         row::NO_PORTS => Ok(Vec::new(alloc)),
-        _ => unreachable!(),
+        _ => Err(AllocError),
     }
 }

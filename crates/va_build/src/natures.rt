@@ -1,10 +1,9 @@
 //! Reading natures (Natures).
 //!
-//! Each function takes the next tree of the parse tree, and its tokens with it.
+//! Each function takes the next tree of the parse tree, and its tokens with it. A row that the nonterminal does not have, which
+//! no parse tree holds, is answered as want of memory is.
 ghost use Rattle.std.specs.Prelude.{◌≡◌, [], ◌∷◌, IfOk};
 ghost use Rattle.va_base.specs.Expansion.{IsExpanded};
-ghost use Rattle.va_grammar.specs.declared.nonterminal.Nonterminal.TheVariants as nonterminal;
-ghost use Rattle.va_build.specs.Due.{IsDue};
 ghost use Rattle.va_build.specs.Reading.{Reads, first_tree, trees};
 ghost use Rattle.va_build.specs.SourceOf as top_level;
 
@@ -22,32 +21,31 @@ fn parent(
     e: &Expanded,
     reader: &mut Reader<'_>,
 ) -> Result<Option<NameAt>, AllocError>
-    requires expanded { IsExpanded e.now }
-    requires due { IsDue nonterminal.ParentNature reader.old }
+    requires { IsExpanded e.now }
     ensures { IfOk result (λ v. Reads (top_level.parent e.now) reader.old reader.new v) }
 {
-    match reader.enter() {
+    match reader.row()? {
         row::PARENT => {
-            reader.pass();
+            reader.token()?;
             let name = named(alloc, e, reader)?;
             Ok(Some(name))
         }
         row::NO_PARENT => Ok(None),
-        _ => unreachable!(),
+        _ => Err(AllocError),
     }
 }
 
 /// A semicolon, if there is one.
-pub(crate) fn semicolon(reader: &mut Reader<'_>)
-    requires due { IsDue nonterminal.OptionalSemicolon reader.old }
-    ensures { Reads {X = Unit {0}} (λ _ _. tt) reader.old reader.new tt }
+pub(crate) fn semicolon(reader: &mut Reader<'_>) -> Result<(), AllocError>
+    ensures { IfOk result (λ v. Reads (λ _ _. tt) reader.old reader.new v) }
 {
-    match reader.enter() {
+    match reader.row()? {
         row::SEMICOLON => {
-            reader.pass();
+            reader.token()?;
+            Ok(())
         }
-        row::NO_SEMICOLON => {}
-        _ => unreachable!(),
+        row::NO_SEMICOLON => Ok(()),
+        _ => Err(AllocError),
     }
 }
 
@@ -57,23 +55,22 @@ fn nature_items(
     e: &Expanded,
     reader: &mut Reader<'_>,
 ) -> Result<Vec<NatureItem>, AllocError>
-    requires expanded { IsExpanded e.now }
-    requires due { IsDue nonterminal.NatureItems reader.old }
+    requires { IsExpanded e.now }
     ensures { IfOk result (λ v. Reads (top_level.nature_items e.now) reader.old reader.new v.items) }
 {
     let mut list = Vec::new(alloc);
     loop {
-        match reader.enter() {
+        match reader.row()? {
             row::NATURE_ITEMS => {
-                let at = reader.pass();
+                let at = reader.token()?;
                 let name = name_at(alloc, e, at)?;
-                reader.pass();
+                reader.token()?;
                 let value = argument(alloc, e, reader)?;
-                reader.pass();
+                reader.token()?;
                 list.push(NatureItem { at, name, value })?;
             }
             row::NO_NATURE_ITEMS => return Ok(list),
-            _ => unreachable!(),
+            _ => return Err(AllocError),
         }
     }
 }
@@ -85,20 +82,19 @@ pub(crate) fn nature(
     reader: &mut Reader<'_>,
     attributes: Vec<AttributeGroup>,
 ) -> Result<Nature, AllocError>
-    requires expanded { IsExpanded e.now }
-    requires due { IsDue nonterminal.NatureDeclaration reader.old }
+    requires { IsExpanded e.now }
     ensures nature { IfOk result (λ v. Reads (top_level.nature e.now attributes.items) reader.old reader.new (v ∷ [])) }
     ensures no_discipline { IfOk result (λ _. top_level.discipline_of e.now attributes.items reader.old.at (first_tree (trees reader.old)) ≡ []) }
     ensures no_module { IfOk result (λ _. top_level.module_of e.now attributes.items reader.old.at (first_tree (trees reader.old)) ≡ []) }
 {
-    reader.enter();
-    reader.pass();
-    let at = reader.pass();
+    reader.take(row::NATURE)?;
+    reader.token()?;
+    let at = reader.token()?;
     let name = name_at(alloc, e, at)?;
     let parent = parent(alloc, e, reader)?;
-    semicolon(reader);
+    semicolon(reader)?;
     let items = nature_items(alloc, e, reader)?;
-    reader.pass();
+    reader.token()?;
     Ok(Nature {
         attributes: Items::new(attributes),
         at,

@@ -1,5 +1,5 @@
 //! Reading a parse tree node by node, in step with the tokens that it spells.
-ghost use Rattle.std.specs.Prelude.{◌≡◌, ◌<◌, length, IfOk, OnOk};
+ghost use Rattle.std.specs.Prelude.{◌≡◌, IfOk, OnOk};
 ghost use Rattle.va_build.specs.Reading.{TakesEnd, TakesRow, TakesToken};
 
 use crate::operators::{TailRow, tail_row};
@@ -47,28 +47,6 @@ impl<'a> Reader<'a> {
         };
         self.nodes = rest;
         Ok(node.row)
-    }
-
-    /// Takes the next node, and answers its row.
-    pub fn enter(&mut self) -> u16
-        requires { 0 < length self.old.nodes }
-        ensures { TakesRow self.old self.new result }
-    {
-        let Some((node, rest)) = self.nodes.split_first() else {
-            unreachable!();
-        };
-        self.nodes = rest;
-        node.row
-    }
-
-    /// Passes the next token, and answers its index. A text has 2000000 tokens at most, and its end.
-    pub fn pass(&mut self) -> u32
-        requires { self.old.at < 2000000 }
-        ensures { TakesToken self.old self.new result }
-    {
-        let at = self.at;
-        self.at += 1;
-        at
     }
 
     /// The row of the next node, or None behind the last.

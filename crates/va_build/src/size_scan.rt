@@ -9,8 +9,7 @@ ghost use Rattle.va_grammar.specs.Parts.{symbol_of};
 ghost use Rattle.va_build.specs.Reading.{row_symbols, trees_of, first_tree};
 ghost use Rattle.va_build.specs.SizeDeep.{earlier};
 ghost use Rattle.va_build.specs.SizeRows as depths;
-ghost use Rattle.va_build.specs.Due.{AreDerived};
-ghost use Rattle.va_build.specs.SizeScan.{many, NothingDue, ComesNext, due_parts};
+ghost use Rattle.va_build.specs.SizeScan.{AreDerived, many, NothingDue, ComesNext, due_parts};
 
 use crate::size_links::tree_links;
 use crate::size_rules::{Due, Rule, depth_below, depth_last, opened, row_parts, row_rule};

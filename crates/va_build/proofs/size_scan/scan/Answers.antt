@@ -6,8 +6,7 @@ use Rattle.predict.specs.declared.tree.ParseNode.{ParseNode}
 use Rattle.va_build.specs.Reading.{row_symbols, first_tree, trees_of}
 use Rattle.va_build.specs.SizeDeep.{earlier}
 use Rattle.va_build.specs.SizeRows.{links, links_of, rule_of, deep_opened, depth_below, depth_last, due, dues, deep_due, modules_due}
-use Rattle.va_build.specs.Due.{AreDerived}
-use Rattle.va_build.specs.SizeScan.{many, symbols_due, SameDue, NothingDue, ComesNext}
+use Rattle.va_build.specs.SizeScan.{AreDerived, many, symbols_due, SameDue, NothingDue, ComesNext}
 use Rattle.va_build.specs.declared.size_rules.Due.{Due}
 use Rattle.va_build.specs.declared.size_rules.Rule.{Rule}
 use Rattle.va_build.proofs.SizeLinks.{from_one, last_first}

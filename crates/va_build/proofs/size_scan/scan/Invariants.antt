@@ -3,8 +3,7 @@ use Rattle.va_base.specs.declared.expanded.Expanded.{Expanded}
 use Rattle.va_build.specs.Reading.{trees_of, first_tree}
 use Rattle.va_build.specs.SizeDeep.{earlier}
 use Rattle.va_build.specs.SizeRows.{deep_in, modules_in, deep_due, modules_due, links_of}
-use Rattle.va_build.specs.Due.{AreDerived}
-use Rattle.va_build.specs.SizeScan.{many, symbols_due}
+use Rattle.va_build.specs.SizeScan.{AreDerived, many, symbols_due}
 use Rattle.va_build.proofs.size_scan.scan.Given as goal
 
 -- what was found and what is due make the whole
