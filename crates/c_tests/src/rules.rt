@@ -9,7 +9,7 @@ use c_form::locals::locals_fault;
 use c_form::numbering::numbering_fault;
 use c_form::tables::tables_fault;
 use c_form_reach::reach_fault;
-use c_form_settings::settings::settings_fault;
+use c_form_settings::settings_fault;
 use c_form_types::types_fault;
 use c_raw::RawFile;
 use c_raw_build::read_raw;
