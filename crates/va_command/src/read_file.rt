@@ -7,6 +7,7 @@ ghost use Rattle.va_command.specs.Answers.{IsDueFor};
 ghost use Rattle.va_command.specs.CFiles.{IsAnswered, IsCFault, IsCFileOf, IsTables, IsDueOfBytes, c_fault_line, most_bytes};
 ghost use Rattle.va_command.specs.Requests.{AsksFirst, read as read_request};
 ghost use Rattle.va_command.specs.declared.read_file.CFault as spec_fault;
+ghost use Rattle.va_report.specs.Reasons as report;
 
 use crate::due::{Due, no_such_file, read_fault};
 use crate::status::Status;
@@ -156,6 +157,15 @@ fn due_of_bytes(alloc: Global, file: &str, bytes: &[u8]) -> Result<Due, NoMemory
     }
 }
 
+/// The reason where the read of the file failed.
+fn failed(alloc: Global, file: &str) -> Result<Due, NoMemory>
+    ensures { IfOk result
+        (λ due. (due.status ≡ Status.ReadFault) × (due.text.items ≡ report.read_fault_line file.now)) }
+{
+    let due = read_fault(alloc, file.as_bytes())?;
+    Ok(due)
+}
+
 /// What is due where the tables of a C file are asked for.
 #[tactic(auto, using(crate::proofs::CFiles::asks_read))]
 pub(crate) fn read_tables<A: Algebra, F: Files>(
@@ -183,7 +193,7 @@ pub(crate) fn read_tables<A: Algebra, F: Files>(
             Ok(due)
         }
         Err(FileErr::Failed) => {
-            let due = read_fault(alloc, file.as_bytes())?;
+            let due = failed(alloc, file)?;
             Ok(due)
         }
         Err(FileErr::NoMemory) => Err(NoMemory),
