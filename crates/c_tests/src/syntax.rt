@@ -244,7 +244,7 @@ fn places_of_faults(rt: HostRuntime) -> Result<(), Fail> {
     for (fault, want) in rows {
         let found = place(b"ab cd\n  ef ?\n", &fault);
         let row = format!(in rt.alloc(); "{}:{}:{}", found.file, found.line, found.col)?;
-        assert!(rt; row.as_str() == want, "{want}");
+        assert!(rt; row.as_str() == want, "{row}");
     }
     Ok(())
 }
