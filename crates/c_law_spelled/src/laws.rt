@@ -13,7 +13,8 @@ pub fn only_spelled()
     ensures { OnlySpelled (2 ^ 32) }
 {}
 
-/// The files that can be spelled are exactly those that some text spells and whose lists have fewer than 2^32 elements.
+/// The files that can be spelled are exactly those that some text spells and whose counted lists have fewer than 2^32
+/// elements.
 pub fn spelled_exactly()
     ensures { SpelledExactly }
 {}

@@ -21,7 +21,7 @@ pub fn calls_keep<A: Algebra>(_law: PhantomData<A>)
     ensures { AtFour A.ops A.valid CallsKeep }
 {}
 
-/// A load leaves at each place the old value with what its statements add to it.
+/// A load leaves at each place what its statements make of the old value: each sets it, adds to it or takes from it.
 pub fn loads_add<A: Algebra>(_law: PhantomData<A>)
     ensures { AtFour A.ops A.valid LoadsAdd }
 {}

@@ -11,7 +11,7 @@ use Rattle.va_base.specs.declared.expanded.Expanded.{Expanded}
 use Rattle.va_base.specs.declared.fault.Fault.{Fault}
 use Rattle.va_base.specs.Expansion.{IsExpanded}
 use Rattle.va_io.specs.Outside.{Holdings, held, Lacks, Appends, AppendsSome, Rose}
-use Rattle.va_preproc.specs.Answers.{Seen as FilesSeen, AsksFor, CountsFault, AreFirst, WhereTold, IsExpansion, IsFirstFault, IsMissed}
+use Rattle.va_preproc.specs.Answers.{Seen as FilesSeen, AsksFor, CountsFault, AreFirst, WhereTold, IsExpansion, IsAnsweredFault}
 use Rattle.va_preproc.specs.Expansion.{limits, expansion, expanded, faulty, texts}
 use Rattle.va_preproc.specs.Reading.{Stop}
 use Rattle.va_command.specs.CFiles.{IsDueOfText, ReadEnds}
@@ -36,10 +36,11 @@ module _ (holds : Option Holdings) (files : FilesSeen) where
   abbrev pub IsSource : List ℕ → Expanded → Type 0
   IsSource file e = IsExpanded e × WhereTold holds (λ h. IsExpansion limits file files h e)
 
-  -- a file has this fault, in a file of this name: the first of its expansion; or, where that has none, that of the text after it
+  -- A file has this fault, in a file of this name: the first of its expansion; or, where that has none, that of the text after it.
+  -- Where it isn't told what the files hold, an include is missing only where a fault was counted.
   abbrev pub HasFault : List ℕ → List ℕ → Fault → Type 0
   HasFault file name fault =
-      WhereTold holds (λ h. IsFirstFault limits file files h fault name ⊎ IsMissed limits file files h fault name)
+      IsAnsweredFault limits holds file files fault name
       ⊎ ((e : Expanded) × IsSource file e × HasTextFault e name fault)
 
   -- the file of the words is not there, and no other was asked for

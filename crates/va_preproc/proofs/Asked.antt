@@ -21,7 +21,7 @@ use Rattle.va_preproc.specs.Uses.{Use}
 use Rattle.va_preproc.specs.Expansion.{Readings, in_holdings, Included, included_name, onward, skip_or, at_file_name, at_token}
 use Rattle.va_preproc.specs.Answers.{WhereTold}
 use Rattle.va_preproc.specs.Values.{step_of, state_of, next_read, is_include_by}
-use Rattle.va_preproc.specs.Steps.{names_in, Agrees, asked_in, World, Asks, BreaksOff, IsWithin, IsFit, AreSmall, IfGiven, at_onward}
+use Rattle.va_preproc.specs.Steps.{names_in, Agrees, AreShort, asked_in, World, Asks, BreaksOff, IsWithin, IsFit, AreSmall, IfGiven, at_onward}
 use Rattle.va_preproc.proofs.Steps.{Extends, extends_refl, extends_trans}
 use Rattle.va_preproc.proofs.Grows.{Grew, Kept, grew_asked}
 use Rattle.va_preproc.proofs.Turns.{next_later}
@@ -62,6 +62,7 @@ asks_none most w files = record {
   grown = sym (append-nil files);
   asked = appends_none w.asked;
   found = told_same w.holds (λ h. Agrees most (in_holdings h) files);
+  short = λ s. s;
 }
 
 pub asks_same : (most : ℕ) (w : World) (files now : List FileText) → now ≡ files → Asks most w w files now []
@@ -80,6 +81,7 @@ asks_then most a b c x y z last h k = record {
       ∙ ap (λ l. l ++ last) (sym (names_append h.more k.more)))
       (appends_then a.asked b.asked c.asked (names_in h.more ++ []) (names_in k.more ++ last) h.asked k.asked);
   found = told_then a.holds b.holds (λ t. Agrees most (in_holdings t) x) (λ t. Agrees most (in_holdings t) y) (λ t. Agrees most (in_holdings t) z) h.held h.found k.found;
+  short = λ s. k.short (h.short s);
 }
 
 pub get_front : {X : Type 0} (xs more : List X) (n : ℕ) (x : X) → slice_get xs n ≡ Some x → slice_get (xs ++ more) n ≡ Some x
@@ -115,16 +117,24 @@ agrees_more most r x f g h number file e = by_place (get_last x f number file e)
     by_place (inr i) =
         (g.0, ap (λ (n : ℕ). r n file.name) i.0 ∙ ap (λ (f : FileText). r (length x) f.name) i.1 ∙ g.1, ap (λ (f : FileText). f.bytes) i.1 ∙ g.2)
 
+short_more : (most : ℕ) (x : List FileText) (f : FileText) → length f.bytes ≤ most + 1 → AreShort most x → AreShort most (x ++ f ∷ [])
+short_more most x f len h number file at = by_place (get_last x f number file at)
+  where
+    by_place : (slice_get x number ≡ Some file) ⊎ ((number ≡ length x) × (file ≡ f)) → length file.bytes ≤ most + 1
+    by_place (inl i) = h number file i
+    by_place (inr i) = subst (λ (g : FileText). length g.bytes ≤ most + 1) (sym i.1) len
+
 -- a file was read
 pub asks_read : (most : ℕ) (a b : World) (x : List FileText) (f : FileText) → b.holds ≡ a.holds → a.faults ≤ b.faults
-    → Appends a.asked b.asked (f.name ∷ []) → Gives a.holds f.name (most + 1) f.bytes → Asks most a b x (x ++ f ∷ []) []
-asks_read most a b x f held later asked gives = record {
+    → length f.bytes ≤ most + 1 → Appends a.asked b.asked (f.name ∷ []) → Gives a.holds f.name (most + 1) f.bytes → Asks most a b x (x ++ f ∷ []) []
+asks_read most a b x f held later len asked gives = record {
   held = held;
   later = later;
   more = f ∷ [];
   grown = refl;
   asked = asked;
   found = by_told a.holds gives;
+  short = short_more most x f len;
 }
   where
     by_told : (o : Option Holdings) → Gives o f.name (most + 1) f.bytes
@@ -142,6 +152,7 @@ asks_last most a b x name held later asked = record {
   grown = sym (append-nil x);
   asked = asked;
   found = told_same a.holds (λ h. Agrees most (in_holdings h) x);
+  short = λ s. s;
 }
 
 -- what is read up to the end of a step, and of one after it
@@ -214,6 +225,7 @@ asks_memory most a b x held later asked = record {
   grown = sym (append-nil x);
   asked = subst (λ o. Appends a.asked o []) (sym asked) (appends_none a.asked);
   found = told_same a.holds (λ h. Agrees most (in_holdings h) x);
+  short = λ s. s;
 }
 
 before_last : (n x y : ℕ) → n + 1 < y → y ≡ x + 1 → n + 0 < x

@@ -16,6 +16,7 @@ pub mod DefinitionForms
 pub mod Tables
 pub mod Turns
 pub mod Grows
+pub mod Blames
 pub mod Stable
 pub mod Asked
 pub mod FileSteps

@@ -21,9 +21,10 @@ use Rattle.va_preproc.specs.declared.progress.Progress.{Progress}
 use Rattle.va_preproc.specs.Lexemes.{Bytes}
 use Rattle.va_preproc.specs.Reading.{State, Stop, Step}
 use Rattle.va_preproc.specs.Expansion.{Limits, Readings, in_holdings, Expansion, lacking, faulty, expanded, ended, expansion_of, expansion_by, expansion_within, with_macro, asking, start_macros, start, include_of, first_place, end_token, texts, reads}
-use Rattle.va_preproc.specs.Answers.{Seen, AsksFor, CountsFault, AreFirst, WhereTold, missing_at, IsFirstFault, IsMissed, IsAnswerWithin, IsSettled}
+use Rattle.va_preproc.specs.Answers.{Seen, AsksFor, CountsFault, AreFirst, WhereTold, missing_at, IsFirstFault, IsMissed, IsAnsweredFault, IsAnswerWithin, IsSettled}
 use Rattle.va_preproc.specs.Values.{lexemes_in, macros_of, state_of}
-use Rattle.va_preproc.specs.Steps.{names_in, Agrees, asked_in, World, Asks, HasCause, BreaksOff, IsWithin, AreSmall, itself, includes_by, expand_read, IsRefused, IsBrokenOff}
+use Rattle.va_preproc.specs.Steps.{names_in, Agrees, AreShort, asked_in, World, Asks, HasCause, BreaksOff, IsWithin, AreSmall, itself, includes_by, expand_read, IsRefused, IsBrokenOff}
+use Rattle.va_preproc.proofs.Blames.{IsOther, BlamesOther, found_blames, include_blames}
 use Rattle.va_preproc.proofs.FileSteps.{shorter, read_grew}
 use Rattle.va_preproc.proofs.Grows.{grew_asked}
 use Rattle.va_preproc.proofs.Lexed.{lexed_tokens}
@@ -120,6 +121,13 @@ asks_whole most a b old files last none k = (
     nothing_read : (r : Readings) → Agrees most r []
     nothing_read r number file e = absurd (no_file number file e)
 
+-- a whole call reads at most one byte more of a file than the limit
+pub short_whole : (most : ℕ) (a b : World) (old files : List FileText) (last : List Bytes) → old ≡ [] → Asks most a b old files last → AreShort most files
+short_whole most a b old files last none k = k.short (subst (AreShort most) (sym none) (λ number file e. absurd (no_file number file e)))
+  where
+    no_file : (number : ℕ) (file : FileText) → slice_get [] number ≡ Some file → ⊥
+    no_file number file e = cc
+
 -- files within the limit are read whole
 full : (most : ℕ) (r : Readings) (files : List FileText) (n : ℕ) (file : FileText) → Agrees most r files → AreSmall most 0 files
     → slice_get files n ≡ Some file → r n file.name ≡ Some file.bytes
@@ -164,6 +172,22 @@ read_agrees most files small number file at = (
 
     more : (n : ℕ) → n ≤ most → n ≤ most + 1
     more n h = omega arith
+
+-- the same, and what was not read is found empty
+all_found : List FileText → Readings
+all_found files n name = Some (unwrap_or (files_read files n name) [])
+
+all_are_found : (files : List FileText) (n : ℕ) (name : Bytes) → (bytes : Bytes) × (all_found files n name ≡ Some bytes)
+unfolding all_found
+all_are_found files n name = (unwrap_or (files_read files n name) [], refl)
+
+found_agrees : (most : ℕ) (files : List FileText) → AreShort most files → Agrees most (all_found files) files
+unfolding all_found, files_read
+found_agrees most files short number file at = (
+  file.bytes,
+  ap (λ o. Some (unwrap_or (option_map (λ (file : FileText). file.bytes) o) [])) at,
+  sym (take_all (most + 1) file.bytes (short number file at)),
+)
 
 read_are : (files : List FileText) → AreRead (files_read files) (names_in files) files
 unfolding files_read
@@ -313,16 +337,32 @@ module _ (most : Limits) (holds : Option Holdings) (main : Bytes) (seen : Seen) 
       (whole_gives most r files first main s agrees small at own (follows r agrees) ∙ ap (expanded (s.result ++ end_token first.bytes ∷ [])) names))
 
   -- the expansion was refused
-  pub refused_answers : (fault : Fault) (e : PreErr) → IsRefused (names_in files) fault e → AsksFor seen (names_in files) → Found
+  pub refused_answers : (fault : Fault) (e : PreErr) → AreShort most.bytes files → IsRefused (names_in files) fault e
+      → AsksFor seen (names_in files) → Found
       → ((r : Readings) → Agrees most.bytes r files → step r ≡ Err (record { fault = fault; asked = names_in files }))
       → IsAnswerWithin most holds main seen (Err e)
-  refused_answers fault (answer.Fault told name) is asked found follows =
-      told_map holds (λ h. Agrees most.bytes (in_holdings h) files) _
-      (λ h agrees. inl (record { fault = fault; asked = names_in files }, stops (in_holdings h) _ agrees (follows (in_holdings h) agrees), sym is.0, is.1, asked, tt))
-      found
-  refused_answers fault answer.Missing is asked found follows = absurd is
-  refused_answers fault (answer.Failed name) is asked found follows = absurd is
-  refused_answers fault answer.NoMemory is asked found follows =
+  refused_answers fault (answer.Fault told name) short is asked found follows = by_told holds found
+    where
+      stop : Stop
+      stop = record { fault = fault; asked = names_in files }
+
+      other : (r : Readings) → ((n : ℕ) (name : Bytes) → (bytes : Bytes) × (r n name ≡ Some bytes)) → step r ≡ Err stop → IsOther fault.code
+      other r finds e =
+          let found = finds 0 main in
+          subst BlamesOther e
+          (found_blames most tokens_of r finds (r 0 main) (includes_by most most.includes r) (include_blames most tokens_of r finds most.includes)
+          main (first_place 0) (asking main (start most)) found.0 found.1)
+
+      by_told : (o : Option Holdings) → WhereTold o (λ h. Agrees most.bytes (in_holdings h) files)
+          → IsAnsweredFault most o main seen told name
+      by_told None agrees missing =
+          let r = all_found files in
+          absurd (other r (all_are_found files) (follows r (found_agrees most.bytes files short)) (ap (λ (f : Fault). f.code) (sym is.0) ∙ missing))
+      by_told (Some h) agrees =
+          inl (stop, stops (in_holdings h) _ agrees (follows (in_holdings h) agrees), sym is.0, is.1, asked, tt)
+  refused_answers fault answer.Missing short is asked found follows = absurd is
+  refused_answers fault (answer.Failed name) short is asked found follows = absurd is
+  refused_answers fault answer.NoMemory short is asked found follows =
       memory_answers (names_in files) asked found (λ r agrees. subst (λ m. AreFirst (names_in files) (asked_in itself m)) (sym (follows r agrees)) ([], sym (append-nil (names_in files))))
 
   same_end : (r : Readings) (stop : Stop) → Agrees most.bytes r files → step r ≡ Err stop → AreFirst stop.asked (asked_in itself (step r))
@@ -368,8 +408,9 @@ module _ (most : Limits) (holds : Option Holdings) (main : Bytes) (seen : Seen) 
           (gives_faults most tokens_of r main stop lexed_tokens.of_files (stops r stop agrees e)).inside))
 
       by_told : (o : Option Holdings) → WhereTold o (λ h. Agrees most.bytes (in_holdings h) files) → Lacks o file ⊎ CountsFault seen
-          → WhereTold o (λ h. IsFirstFault most main seen h told name ⊎ IsMissed most main seen h told name)
-      by_told None agrees w = tt
+          → IsAnsweredFault most o main seen told name
+      by_told None agrees (inl lacks) = λ missing. absurd lacks
+      by_told None agrees (inr rose) = λ missing. rose
       by_told (Some h) agrees (inl lacks) =
           let r = in_holdings h in
           let e = (follows r agrees).1 lacks in

@@ -73,12 +73,18 @@ module _ (most : Limits) (main : Bytes) (files : Seen) (holds : Holdings) where
   abbrev pub AreReads : List Bytes → Type 0
   AreReads names = AreFirst names (reads (expansion_within most tokens_of holds main))
 
+-- A fault that is answered, over what the files hold, if it is told. If it isn't, an include is missing only where a fault was
+-- counted.
+abbrev pub IsAnsweredFault : Limits → Option Holdings → Bytes → Seen → Fault → Bytes → Type 0
+IsAnsweredFault most None main files fault name = fault.code ≡ MissingInclude → CountsFault files
+IsAnsweredFault most (Some holds) main files fault name =
+    IsFirstFault most main files holds fault name ⊎ IsMissed most main files holds fault name
+
 -- What is answered where the files hold this, if it is told. Where memory is refused and where a read fails, no name was asked
 -- for that the expansion does not read.
 abbrev pub IsAnswerWithin : Limits → Option Holdings → Bytes → Seen → Result Expanded PreErr → Type 0
 IsAnswerWithin most holds main files (Ok e) = WhereTold holds (λ h. IsExpansion most main files h e)
-IsAnswerWithin most holds main files (Err (answer.Fault fault name)) =
-    WhereTold holds (λ h. IsFirstFault most main files h fault name ⊎ IsMissed most main files h fault name)
+IsAnswerWithin most holds main files (Err (answer.Fault fault name)) = IsAnsweredFault most holds main files fault name
 IsAnswerWithin most holds main files (Err answer.Missing) = (Lacks holds main ⊎ CountsFault files) × AsksFor files (main ∷ [])
 IsAnswerWithin most holds main files (Err (answer.Failed name)) =
     (names : List Bytes) × CountsFault files × AsksFor files (names ++ name ∷ [])

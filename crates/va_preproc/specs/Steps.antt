@@ -50,6 +50,10 @@ pub record World : Type 0 where
 abbrev pub world : Option Holdings → Option (List Bytes) → ℕ → World
 world holds asked faults = record { holds = holds; asked = asked; faults = faults }
 
+-- each file has at most one byte more than the limit, since no more was asked for
+abbrev pub AreShort : ℕ → List FileText → Type 0
+AreShort most files = (number : ℕ) (file : FileText) → slice_get files number ≡ Some file → length file.bytes ≤ most + 1
+
 -- What a call did to the files: it asked for those that are known after it and were not before it, and then for this, and each
 -- file that it read is held, where that is told.
 pub record Asks (most : ℕ) (before now : World) (old new : List FileText) (last : List Bytes) : Type 0 where
@@ -59,6 +63,7 @@ pub record Asks (most : ℕ) (before now : World) (old new : List FileText) (las
   pub grown : new ≡ old ++ more
   pub asked : Appends before.asked now.asked (names_in more ++ last)
   pub found : WhereTold before.holds (λ h. Agrees most (in_holdings h) old → Agrees most (in_holdings h) new)
+  pub short : AreShort most old → AreShort most new
 
 -- what is asked for where no file is known after it
 abbrev pub last_of : {T : Type 0} → Result T Broken → List Bytes
