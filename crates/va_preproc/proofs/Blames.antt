@@ -103,7 +103,7 @@ module _ (at_use : Use) (uses : UseBlames at_use) where
       inner = record s { argument = Some [] }
 
       restored : (m : Step State) → BlamesOther m
-          → BlamesOther (m >>= λ after. Ok (unwrap_or after.argument [], record after { argument = s.argument }))
+          → BlamesOther {T = List Lexeme × State} (m >>= λ after. Ok (unwrap_or after.argument [], record after { argument = s.argument }))
       restored (Ok after) g = tt
       restored (Err stop) g = g
 

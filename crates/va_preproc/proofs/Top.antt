@@ -182,7 +182,7 @@ unfolding all_found
 all_are_found files n name = (unwrap_or (files_read files n name) [], refl)
 
 found_agrees : (most : ℕ) (files : List FileText) → AreShort most files → Agrees most (all_found files) files
-unfolding all_found, files_read
+unfolding all_found files_read
 found_agrees most files short number file at = (
   file.bytes,
   ap (λ o. Some (unwrap_or (option_map (λ (file : FileText). file.bytes) o) [])) at,
@@ -355,9 +355,9 @@ module _ (most : Limits) (holds : Option Holdings) (main : Bytes) (seen : Seen) 
 
       by_told : (o : Option Holdings) → WhereTold o (λ h. Agrees most.bytes (in_holdings h) files)
           → IsAnsweredFault most o main seen told name
-      by_told None agrees missing =
+      by_told None agrees =
           let r = all_found files in
-          absurd (other r (all_are_found files) (follows r (found_agrees most.bytes files short)) (ap (λ (f : Fault). f.code) (sym is.0) ∙ missing))
+          λ missing. absurd (other r (all_are_found files) (follows r (found_agrees most.bytes files short)) (ap (λ (f : Fault). f.code) (sym is.0) ∙ missing))
       by_told (Some h) agrees =
           inl (stop, stops (in_holdings h) _ agrees (follows (in_holdings h) agrees), sym is.0, is.1, asked, tt)
   refused_answers fault answer.Missing short is asked found follows = absurd is

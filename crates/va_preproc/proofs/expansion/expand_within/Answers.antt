@@ -1,4 +1,4 @@
-use Rattle.std.proofs.Common.{◌≡◌, ◌∙◌, ◌+◌, ℕ, [], ◌∷◌, ◌++◌, length, refl, sym, ap, subst, None, Ok, Err}
+use Rattle.std.proofs.Common.{◌≡◌, ◌∙◌, ◌+◌, ◌≤◌, ℕ, [], ◌∷◌, ◌++◌, length, refl, sym, ap, subst, None, Ok, Err}
 use Rattle.std.proofs.lemmas.List.{append-nil}
 use Rattle.std.specs.Global.{Vec}
 use Rattle.std.specs.Prelude.{slice_get}
@@ -19,7 +19,7 @@ expand_last-requires-clause-fit g c = (still_within c.in-Ok.known c.add_file.new
 
 pub returns-in-Ok-finished-clause-answer : goal.returns-in-Ok-finished-clause-answer
 returns-in-Ok-finished-clause-answer g c =
-    let whole = (asks_whole c.args.limits.now.bytes (world (g.F.Files.holds c.args.files.now) (g.F.Files.asked c.args.files.now) (g.F.Files.faults c.args.files.now)) (world (g.F.Files.holds c.expand_last.new.files) (g.F.Files.asked c.expand_last.new.files) (g.F.Files.faults c.expand_last.new.files)) c.in-Ok.known.files.items c.expand_last.new.known.files.items [] c.in-Ok.ensures.files (asks_then c.args.limits.now.bytes (world (g.F.Files.holds c.args.files.now) (g.F.Files.asked c.args.files.now) (g.F.Files.faults c.args.files.now)) (world (g.F.Files.holds c.read.new.self) (g.F.Files.asked c.read.new.self) (g.F.Files.faults c.read.new.self)) (world (g.F.Files.holds c.expand_last.new.files) (g.F.Files.asked c.expand_last.new.files) (g.F.Files.faults c.expand_last.new.files)) c.in-Ok.known.files.items c.add_file.new.known.files.items c.expand_last.new.known.files.items [] (subst (λ x. Asks c.args.limits.now.bytes (world (g.F.Files.holds c.args.files.now) (g.F.Files.asked c.args.files.now) (g.F.Files.faults c.args.files.now)) (world (g.F.Files.holds c.read.new.self) (g.F.Files.asked c.read.new.self) (g.F.Files.faults c.read.new.self)) c.in-Ok.known.files.items x []) (sym (c.add_file.ensures.files ∙ ap (λ x. x ++ (record { name = c.in-Ok-name_for.own; bytes = c.in-Ok-read.bytes.items }) ∷ []) c.in-Ok-name_for.ensures.files)) (asks_read c.args.limits.now.bytes (world (g.F.Files.holds c.args.files.now) (g.F.Files.asked c.args.files.now) (g.F.Files.faults c.args.files.now)) (world (g.F.Files.holds c.read.new.self) (g.F.Files.asked c.read.new.self) (g.F.Files.faults c.read.new.self)) c.in-Ok.known.files.items (record { name = c.in-Ok-name_for.own; bytes = c.in-Ok-read.bytes.items }) c.in-Ok-read.ensures.held c.in-Ok-read.ensures.later c.in-Ok-read.ensures.most (subst (λ n. Appends (g.F.Files.asked c.args.files.now) (g.F.Files.asked c.read.new.self) (n ∷ [])) (sym c.in-Ok-name_for.ensures.name) c.in-Ok-read.ensures.asked) (subst (λ n. Gives (g.F.Files.holds c.args.files.now) n (c.args.limits.now.bytes + 1) c.in-Ok-read.bytes.items) (sym c.in-Ok-name_for.ensures.name) c.in-Ok-read.ensures.bytes))) c.in-Ok-Ok.ensures.asks)) in
+    let whole = (asks_whole c.args.limits.now.bytes (world (g.F.Files.holds c.args.files.now) (g.F.Files.asked c.args.files.now) (g.F.Files.faults c.args.files.now)) (world (g.F.Files.holds c.expand_last.new.files) (g.F.Files.asked c.expand_last.new.files) (g.F.Files.faults c.expand_last.new.files)) c.in-Ok.known.files.items c.expand_last.new.known.files.items [] c.in-Ok.ensures.files (asks_then c.args.limits.now.bytes (world (g.F.Files.holds c.args.files.now) (g.F.Files.asked c.args.files.now) (g.F.Files.faults c.args.files.now)) (world (g.F.Files.holds c.read.new.self) (g.F.Files.asked c.read.new.self) (g.F.Files.faults c.read.new.self)) (world (g.F.Files.holds c.expand_last.new.files) (g.F.Files.asked c.expand_last.new.files) (g.F.Files.faults c.expand_last.new.files)) c.in-Ok.known.files.items c.add_file.new.known.files.items c.expand_last.new.known.files.items [] (subst (λ x. Asks c.args.limits.now.bytes (world (g.F.Files.holds c.args.files.now) (g.F.Files.asked c.args.files.now) (g.F.Files.faults c.args.files.now)) (world (g.F.Files.holds c.read.new.self) (g.F.Files.asked c.read.new.self) (g.F.Files.faults c.read.new.self)) c.in-Ok.known.files.items x []) (sym (c.add_file.ensures.files ∙ ap (λ x. x ++ (record { name = c.in-Ok-name_for.own; bytes = c.in-Ok-read.bytes.items }) ∷ []) c.in-Ok-name_for.ensures.files)) (asks_read c.args.limits.now.bytes (world (g.F.Files.holds c.args.files.now) (g.F.Files.asked c.args.files.now) (g.F.Files.faults c.args.files.now)) (world (g.F.Files.holds c.read.new.self) (g.F.Files.asked c.read.new.self) (g.F.Files.faults c.read.new.self)) c.in-Ok.known.files.items (record { name = c.in-Ok-name_for.own; bytes = c.in-Ok-read.bytes.items }) c.in-Ok-read.ensures.held c.in-Ok-read.ensures.later (subst (λ n. n ≤ c.args.limits.now.bytes + 1) c.in-Ok-read.bytes.ok.0 c.in-Ok-read.ensures.most) (subst (λ n. Appends (g.F.Files.asked c.args.files.now) (g.F.Files.asked c.read.new.self) (n ∷ [])) (sym c.in-Ok-name_for.ensures.name) c.in-Ok-read.ensures.asked) (subst (λ n. Gives (g.F.Files.holds c.args.files.now) n (c.args.limits.now.bytes + 1) c.in-Ok-read.bytes.items) (sym c.in-Ok-name_for.ensures.name) c.in-Ok-read.ensures.bytes))) c.in-Ok-Ok.ensures.asks)) in
     finished_answers (limits_of c.args.limits.now) (g.F.Files.holds c.args.files.now) c.args.main.now (seen (g.F.Files.asked c.args.files.now) (g.F.Files.asked c.expand_last.new.files) (g.F.Files.faults c.args.files.now) (g.F.Files.faults c.expand_last.new.files)) c.expand_last.new.known.files.items c.in-Ok-finished.ensures.tokens.0 c.in-Ok-finished.ensures.tokens.1 (first_name c.add_file.new.known.files.items c.expand_last.new.known.files.items c.in-Ok-Ok.ensures.asks.more (record { name = c.in-Ok-name_for.own; bytes = c.in-Ok-read.bytes.items }) c.in-Ok-finished.ensures.tokens.0 c.args.main.now ((c.add_file.ensures.files ∙ ap (λ x. x ++ (record { name = c.in-Ok-name_for.own; bytes = c.in-Ok-read.bytes.items }) ∷ []) c.in-Ok-name_for.ensures.files) ∙ ap (λ x. x ++ (record { name = c.in-Ok-name_for.own; bytes = c.in-Ok-read.bytes.items }) ∷ []) c.in-Ok.ensures.files) c.in-Ok-name_for.ensures.name c.in-Ok-Ok.ensures.asks.grown c.in-Ok-finished.ensures.tokens.1) (state_of c.expand_last.new.known c.expand_last.new.progress) c.in-Ok-finished.expanded (subst (λ x. IfGiven (Ok x) (IsFit c.args.limits.now.bytes 0 c.expand_last.new.known c.expand_last.new.progress)) c.in-Ok-Ok.field-0-is c.in-Ok-Ok.ensures.fit).2
     (subst (Appends (g.F.Files.asked c.args.files.now) (g.F.Files.asked c.expand_last.new.files)) (append-nil (names_in c.expand_last.new.known.files.items)) whole.0) whole.1 c.in-Ok-finished.ensures.tokens.2 c.in-Ok-finished.ensures.files refl
     (λ r agrees. (starts (limits_of c.args.limits.now) c.in-Ok.known c.add_file.new.known c.start_progress-progress.result (record { name = c.in-Ok-name_for.own; bytes = c.in-Ok-read.bytes.items }) c.args.main.now (record { macros = c.in-Ok.ensures.macros; files = c.in-Ok.ensures.files; unread = c.start_progress-progress.ensures.unread; tokens = c.start_progress-progress.ensures.tokens; free = c.start_progress-progress.ensures.free; argument = c.start_progress-progress.ensures.argument }) (c.add_file.ensures.files ∙ ap (λ x. x ++ (record { name = c.in-Ok-name_for.own; bytes = c.in-Ok-read.bytes.items }) ∷ []) c.in-Ok-name_for.ensures.files) (c.add_file.ensures.macros ∙ c.in-Ok-name_for.ensures.macros) c.in-Ok-name_for.ensures.name r) ∙ c.in-Ok-Ok.ensures.follows r agrees ∙ ap (step_of _ _) c.in-Ok-Ok.field-0-is)
@@ -32,14 +32,14 @@ returns-in-Ok-finished-clause-expanded g c =
 
 pub returns-in-Ok-Ok-clause-answer : goal.returns-in-Ok-Ok-clause-answer
 returns-in-Ok-Ok-clause-answer g c =
-    let whole = (asks_whole c.args.limits.now.bytes (world (g.F.Files.holds c.args.files.now) (g.F.Files.asked c.args.files.now) (g.F.Files.faults c.args.files.now)) (world (g.F.Files.holds c.expand_last.new.files) (g.F.Files.asked c.expand_last.new.files) (g.F.Files.faults c.expand_last.new.files)) c.in-Ok.known.files.items c.expand_last.new.known.files.items [] c.in-Ok.ensures.files (asks_then c.args.limits.now.bytes (world (g.F.Files.holds c.args.files.now) (g.F.Files.asked c.args.files.now) (g.F.Files.faults c.args.files.now)) (world (g.F.Files.holds c.read.new.self) (g.F.Files.asked c.read.new.self) (g.F.Files.faults c.read.new.self)) (world (g.F.Files.holds c.expand_last.new.files) (g.F.Files.asked c.expand_last.new.files) (g.F.Files.faults c.expand_last.new.files)) c.in-Ok.known.files.items c.add_file.new.known.files.items c.expand_last.new.known.files.items [] (subst (λ x. Asks c.args.limits.now.bytes (world (g.F.Files.holds c.args.files.now) (g.F.Files.asked c.args.files.now) (g.F.Files.faults c.args.files.now)) (world (g.F.Files.holds c.read.new.self) (g.F.Files.asked c.read.new.self) (g.F.Files.faults c.read.new.self)) c.in-Ok.known.files.items x []) (sym (c.add_file.ensures.files ∙ ap (λ x. x ++ (record { name = c.in-Ok-name_for.own; bytes = c.in-Ok-read.bytes.items }) ∷ []) c.in-Ok-name_for.ensures.files)) (asks_read c.args.limits.now.bytes (world (g.F.Files.holds c.args.files.now) (g.F.Files.asked c.args.files.now) (g.F.Files.faults c.args.files.now)) (world (g.F.Files.holds c.read.new.self) (g.F.Files.asked c.read.new.self) (g.F.Files.faults c.read.new.self)) c.in-Ok.known.files.items (record { name = c.in-Ok-name_for.own; bytes = c.in-Ok-read.bytes.items }) c.in-Ok-read.ensures.held c.in-Ok-read.ensures.later c.in-Ok-read.ensures.most (subst (λ n. Appends (g.F.Files.asked c.args.files.now) (g.F.Files.asked c.read.new.self) (n ∷ [])) (sym c.in-Ok-name_for.ensures.name) c.in-Ok-read.ensures.asked) (subst (λ n. Gives (g.F.Files.holds c.args.files.now) n (c.args.limits.now.bytes + 1) c.in-Ok-read.bytes.items) (sym c.in-Ok-name_for.ensures.name) c.in-Ok-read.ensures.bytes))) c.in-Ok-Ok.ensures.asks)) in
+    let whole = (asks_whole c.args.limits.now.bytes (world (g.F.Files.holds c.args.files.now) (g.F.Files.asked c.args.files.now) (g.F.Files.faults c.args.files.now)) (world (g.F.Files.holds c.expand_last.new.files) (g.F.Files.asked c.expand_last.new.files) (g.F.Files.faults c.expand_last.new.files)) c.in-Ok.known.files.items c.expand_last.new.known.files.items [] c.in-Ok.ensures.files (asks_then c.args.limits.now.bytes (world (g.F.Files.holds c.args.files.now) (g.F.Files.asked c.args.files.now) (g.F.Files.faults c.args.files.now)) (world (g.F.Files.holds c.read.new.self) (g.F.Files.asked c.read.new.self) (g.F.Files.faults c.read.new.self)) (world (g.F.Files.holds c.expand_last.new.files) (g.F.Files.asked c.expand_last.new.files) (g.F.Files.faults c.expand_last.new.files)) c.in-Ok.known.files.items c.add_file.new.known.files.items c.expand_last.new.known.files.items [] (subst (λ x. Asks c.args.limits.now.bytes (world (g.F.Files.holds c.args.files.now) (g.F.Files.asked c.args.files.now) (g.F.Files.faults c.args.files.now)) (world (g.F.Files.holds c.read.new.self) (g.F.Files.asked c.read.new.self) (g.F.Files.faults c.read.new.self)) c.in-Ok.known.files.items x []) (sym (c.add_file.ensures.files ∙ ap (λ x. x ++ (record { name = c.in-Ok-name_for.own; bytes = c.in-Ok-read.bytes.items }) ∷ []) c.in-Ok-name_for.ensures.files)) (asks_read c.args.limits.now.bytes (world (g.F.Files.holds c.args.files.now) (g.F.Files.asked c.args.files.now) (g.F.Files.faults c.args.files.now)) (world (g.F.Files.holds c.read.new.self) (g.F.Files.asked c.read.new.self) (g.F.Files.faults c.read.new.self)) c.in-Ok.known.files.items (record { name = c.in-Ok-name_for.own; bytes = c.in-Ok-read.bytes.items }) c.in-Ok-read.ensures.held c.in-Ok-read.ensures.later (subst (λ n. n ≤ c.args.limits.now.bytes + 1) c.in-Ok-read.bytes.ok.0 c.in-Ok-read.ensures.most) (subst (λ n. Appends (g.F.Files.asked c.args.files.now) (g.F.Files.asked c.read.new.self) (n ∷ [])) (sym c.in-Ok-name_for.ensures.name) c.in-Ok-read.ensures.asked) (subst (λ n. Gives (g.F.Files.holds c.args.files.now) n (c.args.limits.now.bytes + 1) c.in-Ok-read.bytes.items) (sym c.in-Ok-name_for.ensures.name) c.in-Ok-read.ensures.bytes))) c.in-Ok-Ok.ensures.asks)) in
     memory_answers (limits_of c.args.limits.now) (g.F.Files.holds c.args.files.now) c.args.main.now (seen (g.F.Files.asked c.args.files.now) (g.F.Files.asked c.expand_last.new.files) (g.F.Files.faults c.args.files.now) (g.F.Files.faults c.expand_last.new.files)) c.expand_last.new.known.files.items (record { name = c.in-Ok-name_for.own; bytes = c.in-Ok-read.bytes.items }) (ap (λ l. slice_get l 0) (c.in-Ok-Ok.ensures.asks.grown ∙ ap (λ l. l ++ c.in-Ok-Ok.ensures.asks.more) ((c.add_file.ensures.files ∙ ap (λ x. x ++ (record { name = c.in-Ok-name_for.own; bytes = c.in-Ok-read.bytes.items }) ∷ []) c.in-Ok-name_for.ensures.files) ∙ ap (λ x. x ++ (record { name = c.in-Ok-name_for.own; bytes = c.in-Ok-read.bytes.items }) ∷ []) c.in-Ok.ensures.files))) c.in-Ok-name_for.ensures.name (names_in c.expand_last.new.known.files.items)
     (subst (Appends (g.F.Files.asked c.args.files.now) (g.F.Files.asked c.expand_last.new.files)) (append-nil (names_in c.expand_last.new.known.files.items)) whole.0) whole.1
     (λ r agrees. subst (λ m. AreFirst (names_in c.expand_last.new.known.files.items) (asked_in itself m)) (sym ((starts (limits_of c.args.limits.now) c.in-Ok.known c.add_file.new.known c.start_progress-progress.result (record { name = c.in-Ok-name_for.own; bytes = c.in-Ok-read.bytes.items }) c.args.main.now (record { macros = c.in-Ok.ensures.macros; files = c.in-Ok.ensures.files; unread = c.start_progress-progress.ensures.unread; tokens = c.start_progress-progress.ensures.tokens; free = c.start_progress-progress.ensures.free; argument = c.start_progress-progress.ensures.argument }) (c.add_file.ensures.files ∙ ap (λ x. x ++ (record { name = c.in-Ok-name_for.own; bytes = c.in-Ok-read.bytes.items }) ∷ []) c.in-Ok-name_for.ensures.files) (c.add_file.ensures.macros ∙ c.in-Ok-name_for.ensures.macros) c.in-Ok-name_for.ensures.name r) ∙ c.in-Ok-Ok.ensures.follows r agrees ∙ ap (step_of _ _) c.in-Ok-Ok.field-0-is)) ([], sym (append-nil (names_in c.expand_last.new.known.files.items))))
 
 pub returns-in-Ok-Err-clause-answer : goal.returns-in-Ok-Err-clause-answer
 returns-in-Ok-Err-clause-answer g c =
-    let asks = (asks_then c.args.limits.now.bytes (world (g.F.Files.holds c.args.files.now) (g.F.Files.asked c.args.files.now) (g.F.Files.faults c.args.files.now)) (world (g.F.Files.holds c.read.new.self) (g.F.Files.asked c.read.new.self) (g.F.Files.faults c.read.new.self)) (world (g.F.Files.holds c.expand_last.new.files) (g.F.Files.asked c.expand_last.new.files) (g.F.Files.faults c.expand_last.new.files)) c.in-Ok.known.files.items c.add_file.new.known.files.items c.expand_last.new.known.files.items [] (subst (λ x. Asks c.args.limits.now.bytes (world (g.F.Files.holds c.args.files.now) (g.F.Files.asked c.args.files.now) (g.F.Files.faults c.args.files.now)) (world (g.F.Files.holds c.read.new.self) (g.F.Files.asked c.read.new.self) (g.F.Files.faults c.read.new.self)) c.in-Ok.known.files.items x []) (sym (c.add_file.ensures.files ∙ ap (λ x. x ++ (record { name = c.in-Ok-name_for.own; bytes = c.in-Ok-read.bytes.items }) ∷ []) c.in-Ok-name_for.ensures.files)) (asks_read c.args.limits.now.bytes (world (g.F.Files.holds c.args.files.now) (g.F.Files.asked c.args.files.now) (g.F.Files.faults c.args.files.now)) (world (g.F.Files.holds c.read.new.self) (g.F.Files.asked c.read.new.self) (g.F.Files.faults c.read.new.self)) c.in-Ok.known.files.items (record { name = c.in-Ok-name_for.own; bytes = c.in-Ok-read.bytes.items }) c.in-Ok-read.ensures.held c.in-Ok-read.ensures.later c.in-Ok-read.ensures.most (subst (λ n. Appends (g.F.Files.asked c.args.files.now) (g.F.Files.asked c.read.new.self) (n ∷ [])) (sym c.in-Ok-name_for.ensures.name) c.in-Ok-read.ensures.asked) (subst (λ n. Gives (g.F.Files.holds c.args.files.now) n (c.args.limits.now.bytes + 1) c.in-Ok-read.bytes.items) (sym c.in-Ok-name_for.ensures.name) c.in-Ok-read.ensures.bytes))) c.in-Ok-Err.ensures.asks) in
+    let asks = (asks_then c.args.limits.now.bytes (world (g.F.Files.holds c.args.files.now) (g.F.Files.asked c.args.files.now) (g.F.Files.faults c.args.files.now)) (world (g.F.Files.holds c.read.new.self) (g.F.Files.asked c.read.new.self) (g.F.Files.faults c.read.new.self)) (world (g.F.Files.holds c.expand_last.new.files) (g.F.Files.asked c.expand_last.new.files) (g.F.Files.faults c.expand_last.new.files)) c.in-Ok.known.files.items c.add_file.new.known.files.items c.expand_last.new.known.files.items [] (subst (λ x. Asks c.args.limits.now.bytes (world (g.F.Files.holds c.args.files.now) (g.F.Files.asked c.args.files.now) (g.F.Files.faults c.args.files.now)) (world (g.F.Files.holds c.read.new.self) (g.F.Files.asked c.read.new.self) (g.F.Files.faults c.read.new.self)) c.in-Ok.known.files.items x []) (sym (c.add_file.ensures.files ∙ ap (λ x. x ++ (record { name = c.in-Ok-name_for.own; bytes = c.in-Ok-read.bytes.items }) ∷ []) c.in-Ok-name_for.ensures.files)) (asks_read c.args.limits.now.bytes (world (g.F.Files.holds c.args.files.now) (g.F.Files.asked c.args.files.now) (g.F.Files.faults c.args.files.now)) (world (g.F.Files.holds c.read.new.self) (g.F.Files.asked c.read.new.self) (g.F.Files.faults c.read.new.self)) c.in-Ok.known.files.items (record { name = c.in-Ok-name_for.own; bytes = c.in-Ok-read.bytes.items }) c.in-Ok-read.ensures.held c.in-Ok-read.ensures.later (subst (λ n. n ≤ c.args.limits.now.bytes + 1) c.in-Ok-read.bytes.ok.0 c.in-Ok-read.ensures.most) (subst (λ n. Appends (g.F.Files.asked c.args.files.now) (g.F.Files.asked c.read.new.self) (n ∷ [])) (sym c.in-Ok-name_for.ensures.name) c.in-Ok-read.ensures.asked) (subst (λ n. Gives (g.F.Files.holds c.args.files.now) n (c.args.limits.now.bytes + 1) c.in-Ok-read.bytes.items) (sym c.in-Ok-name_for.ensures.name) c.in-Ok-read.ensures.bytes))) c.in-Ok-Err.ensures.asks) in
     let whole = asks_whole c.args.limits.now.bytes (world (g.F.Files.holds c.args.files.now) (g.F.Files.asked c.args.files.now) (g.F.Files.faults c.args.files.now)) (world (g.F.Files.holds c.expand_last.new.files) (g.F.Files.asked c.expand_last.new.files) (g.F.Files.faults c.expand_last.new.files)) c.in-Ok.known.files.items c.expand_last.new.known.files.items [] c.in-Ok.ensures.files asks in
     refused_answers (limits_of c.args.limits.now) (g.F.Files.holds c.args.files.now) c.args.main.now (seen (g.F.Files.asked c.args.files.now) (g.F.Files.asked c.expand_last.new.files) (g.F.Files.faults c.args.files.now) (g.F.Files.faults c.expand_last.new.files)) c.expand_last.new.known.files.items (record { name = c.in-Ok-name_for.own; bytes = c.in-Ok-read.bytes.items }) (ap (λ l. slice_get l 0) (c.in-Ok-Err.ensures.asks.grown ∙ ap (λ l. l ++ c.in-Ok-Err.ensures.asks.more) ((c.add_file.ensures.files ∙ ap (λ x. x ++ (record { name = c.in-Ok-name_for.own; bytes = c.in-Ok-read.bytes.items }) ∷ []) c.in-Ok-name_for.ensures.files) ∙ ap (λ x. x ++ (record { name = c.in-Ok-name_for.own; bytes = c.in-Ok-read.bytes.items }) ∷ []) c.in-Ok.ensures.files))) c.in-Ok-name_for.ensures.name c.in-Ok-Err.fault c.refused.result (short_whole c.args.limits.now.bytes (world (g.F.Files.holds c.args.files.now) (g.F.Files.asked c.args.files.now) (g.F.Files.faults c.args.files.now)) (world (g.F.Files.holds c.expand_last.new.files) (g.F.Files.asked c.expand_last.new.files) (g.F.Files.faults c.expand_last.new.files)) c.in-Ok.known.files.items c.expand_last.new.known.files.items [] c.in-Ok.ensures.files asks) c.refused.ensures
     (subst (Appends (g.F.Files.asked c.args.files.now) (g.F.Files.asked c.expand_last.new.files)) (append-nil (names_in c.expand_last.new.known.files.items)) whole.0) whole.1
@@ -47,7 +47,7 @@ returns-in-Ok-Err-clause-answer g c =
 
 pub returns-in-Ok-read-clause-answer : goal.returns-in-Ok-read-clause-answer
 returns-in-Ok-read-clause-answer g c =
-    let whole = (asks_whole c.args.limits.now.bytes (world (g.F.Files.holds c.args.files.now) (g.F.Files.asked c.args.files.now) (g.F.Files.faults c.args.files.now)) (world (g.F.Files.holds c.expand_last.new.files) (g.F.Files.asked c.expand_last.new.files) (g.F.Files.faults c.expand_last.new.files)) c.in-Ok.known.files.items c.expand_last.new.known.files.items (last_name c.in-Err.broken) c.in-Ok.ensures.files (asks_then c.args.limits.now.bytes (world (g.F.Files.holds c.args.files.now) (g.F.Files.asked c.args.files.now) (g.F.Files.faults c.args.files.now)) (world (g.F.Files.holds c.read.new.self) (g.F.Files.asked c.read.new.self) (g.F.Files.faults c.read.new.self)) (world (g.F.Files.holds c.expand_last.new.files) (g.F.Files.asked c.expand_last.new.files) (g.F.Files.faults c.expand_last.new.files)) c.in-Ok.known.files.items c.add_file.new.known.files.items c.expand_last.new.known.files.items (last_name c.in-Err.broken) (subst (λ x. Asks c.args.limits.now.bytes (world (g.F.Files.holds c.args.files.now) (g.F.Files.asked c.args.files.now) (g.F.Files.faults c.args.files.now)) (world (g.F.Files.holds c.read.new.self) (g.F.Files.asked c.read.new.self) (g.F.Files.faults c.read.new.self)) c.in-Ok.known.files.items x []) (sym (c.add_file.ensures.files ∙ ap (λ x. x ++ (record { name = c.in-Ok-name_for.own; bytes = c.in-Ok-read.bytes.items }) ∷ []) c.in-Ok-name_for.ensures.files)) (asks_read c.args.limits.now.bytes (world (g.F.Files.holds c.args.files.now) (g.F.Files.asked c.args.files.now) (g.F.Files.faults c.args.files.now)) (world (g.F.Files.holds c.read.new.self) (g.F.Files.asked c.read.new.self) (g.F.Files.faults c.read.new.self)) c.in-Ok.known.files.items (record { name = c.in-Ok-name_for.own; bytes = c.in-Ok-read.bytes.items }) c.in-Ok-read.ensures.held c.in-Ok-read.ensures.later c.in-Ok-read.ensures.most (subst (λ n. Appends (g.F.Files.asked c.args.files.now) (g.F.Files.asked c.read.new.self) (n ∷ [])) (sym c.in-Ok-name_for.ensures.name) c.in-Ok-read.ensures.asked) (subst (λ n. Gives (g.F.Files.holds c.args.files.now) n (c.args.limits.now.bytes + 1) c.in-Ok-read.bytes.items) (sym c.in-Ok-name_for.ensures.name) c.in-Ok-read.ensures.bytes))) c.in-Err.ensures.asks)) in
+    let whole = (asks_whole c.args.limits.now.bytes (world (g.F.Files.holds c.args.files.now) (g.F.Files.asked c.args.files.now) (g.F.Files.faults c.args.files.now)) (world (g.F.Files.holds c.expand_last.new.files) (g.F.Files.asked c.expand_last.new.files) (g.F.Files.faults c.expand_last.new.files)) c.in-Ok.known.files.items c.expand_last.new.known.files.items (last_name c.in-Err.broken) c.in-Ok.ensures.files (asks_then c.args.limits.now.bytes (world (g.F.Files.holds c.args.files.now) (g.F.Files.asked c.args.files.now) (g.F.Files.faults c.args.files.now)) (world (g.F.Files.holds c.read.new.self) (g.F.Files.asked c.read.new.self) (g.F.Files.faults c.read.new.self)) (world (g.F.Files.holds c.expand_last.new.files) (g.F.Files.asked c.expand_last.new.files) (g.F.Files.faults c.expand_last.new.files)) c.in-Ok.known.files.items c.add_file.new.known.files.items c.expand_last.new.known.files.items (last_name c.in-Err.broken) (subst (λ x. Asks c.args.limits.now.bytes (world (g.F.Files.holds c.args.files.now) (g.F.Files.asked c.args.files.now) (g.F.Files.faults c.args.files.now)) (world (g.F.Files.holds c.read.new.self) (g.F.Files.asked c.read.new.self) (g.F.Files.faults c.read.new.self)) c.in-Ok.known.files.items x []) (sym (c.add_file.ensures.files ∙ ap (λ x. x ++ (record { name = c.in-Ok-name_for.own; bytes = c.in-Ok-read.bytes.items }) ∷ []) c.in-Ok-name_for.ensures.files)) (asks_read c.args.limits.now.bytes (world (g.F.Files.holds c.args.files.now) (g.F.Files.asked c.args.files.now) (g.F.Files.faults c.args.files.now)) (world (g.F.Files.holds c.read.new.self) (g.F.Files.asked c.read.new.self) (g.F.Files.faults c.read.new.self)) c.in-Ok.known.files.items (record { name = c.in-Ok-name_for.own; bytes = c.in-Ok-read.bytes.items }) c.in-Ok-read.ensures.held c.in-Ok-read.ensures.later (subst (λ n. n ≤ c.args.limits.now.bytes + 1) c.in-Ok-read.bytes.ok.0 c.in-Ok-read.ensures.most) (subst (λ n. Appends (g.F.Files.asked c.args.files.now) (g.F.Files.asked c.read.new.self) (n ∷ [])) (sym c.in-Ok-name_for.ensures.name) c.in-Ok-read.ensures.asked) (subst (λ n. Gives (g.F.Files.holds c.args.files.now) n (c.args.limits.now.bytes + 1) c.in-Ok-read.bytes.items) (sym c.in-Ok-name_for.ensures.name) c.in-Ok-read.ensures.bytes))) c.in-Err.ensures.asks)) in
     broken_answers (limits_of c.args.limits.now) (g.F.Files.holds c.args.files.now) c.args.main.now (seen (g.F.Files.asked c.args.files.now) (g.F.Files.asked c.expand_last.new.files) (g.F.Files.faults c.args.files.now) (g.F.Files.faults c.expand_last.new.files)) c.expand_last.new.known.files.items (record { name = c.in-Ok-name_for.own; bytes = c.in-Ok-read.bytes.items }) (ap (λ l. slice_get l 0) (c.in-Err.ensures.asks.grown ∙ ap (λ l. l ++ c.in-Err.ensures.asks.more) ((c.add_file.ensures.files ∙ ap (λ x. x ++ (record { name = c.in-Ok-name_for.own; bytes = c.in-Ok-read.bytes.items }) ∷ []) c.in-Ok-name_for.ensures.files) ∙ ap (λ x. x ++ (record { name = c.in-Ok-name_for.own; bytes = c.in-Ok-read.bytes.items }) ∷ []) c.in-Ok.ensures.files))) c.in-Ok-name_for.ensures.name c.in-Err.broken c.broken_off.result c.broken_off.ensures whole.0 whole.1
     (was_broken (Unit {0}) (world (g.F.Files.holds c.read.new.self) (g.F.Files.asked c.read.new.self) (g.F.Files.faults c.read.new.self)) (world (g.F.Files.holds c.expand_last.new.files) (g.F.Files.asked c.expand_last.new.files) (g.F.Files.faults c.expand_last.new.files)) (g.F.Files.holds c.args.files.now) (seen (g.F.Files.asked c.args.files.now) (g.F.Files.asked c.expand_last.new.files) (g.F.Files.faults c.args.files.now) (g.F.Files.faults c.expand_last.new.files)) c.in-Err.broken c.in-Ok-read.ensures.held c.in-Ok-read.ensures.later refl c.in-Err.ensures.cause)
     (λ r agrees. subst (λ m. BreaksOff itself m c.expand_last.new.known.files.items c.in-Err.broken (λ name. r (length c.expand_last.new.known.files.items) name ≡ None)) (sym (starts (limits_of c.args.limits.now) c.in-Ok.known c.add_file.new.known c.start_progress-progress.result (record { name = c.in-Ok-name_for.own; bytes = c.in-Ok-read.bytes.items }) c.args.main.now (record { macros = c.in-Ok.ensures.macros; files = c.in-Ok.ensures.files; unread = c.start_progress-progress.ensures.unread; tokens = c.start_progress-progress.ensures.tokens; free = c.start_progress-progress.ensures.free; argument = c.start_progress-progress.ensures.argument }) (c.add_file.ensures.files ∙ ap (λ x. x ++ (record { name = c.in-Ok-name_for.own; bytes = c.in-Ok-read.bytes.items }) ∷ []) c.in-Ok-name_for.ensures.files) (c.add_file.ensures.macros ∙ c.in-Ok-name_for.ensures.macros) c.in-Ok-name_for.ensures.name r)) (c.in-Err.ensures.follows r agrees))

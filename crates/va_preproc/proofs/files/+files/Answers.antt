@@ -137,19 +137,19 @@ include-returns-in_default-clause-follows g t c = λ r agrees.
     subst (λ f. AreFirst (names_in f) (asked_in itself (includes_by (limits_of c.args.open.now.limits) c.args.open.now.depth r (string_bytes c.args.name) c.args.place (state_of c.args.known.now c.args.progress.now)))) (sym c.name_for.ensures.files) (grew_asked itself (state_of c.args.known.now c.args.progress.now) _ (include_grew (limits_of c.args.open.now.limits) c.args.open.now.depth r (string_bytes c.args.name) c.args.place (state_of c.args.known.now c.args.progress.now)))
 
 pub include-returns-in-Ok-Ok-clause-asks : goal.include-returns-in-Ok-Ok-clause-asks
-include-returns-in-Ok-Ok-clause-asks g t c = asks_then c.args.open.now.limits.bytes (world (g.F.Files.holds c.args.files.now) (g.F.Files.asked c.args.files.now) (g.F.Files.faults c.args.files.now)) (world (g.F.Files.holds c.read.new.self) (g.F.Files.asked c.read.new.self) (g.F.Files.faults c.read.new.self)) (world (g.F.Files.holds c.expand_last.new.files) (g.F.Files.asked c.expand_last.new.files) (g.F.Files.faults c.expand_last.new.files)) c.args.known.now.files.items c.add_file.new.known.files.items c.expand_last.new.known.files.items [] (subst (λ x. Asks c.args.open.now.limits.bytes (world (g.F.Files.holds c.args.files.now) (g.F.Files.asked c.args.files.now) (g.F.Files.faults c.args.files.now)) (world (g.F.Files.holds c.read.new.self) (g.F.Files.asked c.read.new.self) (g.F.Files.faults c.read.new.self)) c.args.known.now.files.items x []) (sym (c.add_file.ensures.files ∙ ap (λ x. x ++ (record { name = c.in-Ok.own; bytes = c.in-Ok-read.bytes.items }) ∷ []) c.in-Ok.ensures.files)) (asks_read c.args.open.now.limits.bytes (world (g.F.Files.holds c.args.files.now) (g.F.Files.asked c.args.files.now) (g.F.Files.faults c.args.files.now)) (world (g.F.Files.holds c.read.new.self) (g.F.Files.asked c.read.new.self) (g.F.Files.faults c.read.new.self)) c.args.known.now.files.items (record { name = c.in-Ok.own; bytes = c.in-Ok-read.bytes.items }) c.in-Ok-read.ensures.held c.in-Ok-read.ensures.later c.in-Ok-read.ensures.most (subst (λ n. Appends (g.F.Files.asked c.args.files.now) (g.F.Files.asked c.read.new.self) (n ∷ [])) (c.as_str-2.ensures.value ∙ sym (c.in-Ok.ensures.name ∙ c.as_str.ensures.value)) c.in-Ok-read.ensures.asked) (subst (λ n. Gives (g.F.Files.holds c.args.files.now) n (c.args.open.now.limits.bytes + 1) c.in-Ok-read.bytes.items) (c.as_str-2.ensures.value ∙ sym (c.in-Ok.ensures.name ∙ c.as_str.ensures.value)) c.in-Ok-read.ensures.bytes))) c.in-Ok-Ok.ensures.asks
+include-returns-in-Ok-Ok-clause-asks g t c = asks_then c.args.open.now.limits.bytes (world (g.F.Files.holds c.args.files.now) (g.F.Files.asked c.args.files.now) (g.F.Files.faults c.args.files.now)) (world (g.F.Files.holds c.read.new.self) (g.F.Files.asked c.read.new.self) (g.F.Files.faults c.read.new.self)) (world (g.F.Files.holds c.expand_last.new.files) (g.F.Files.asked c.expand_last.new.files) (g.F.Files.faults c.expand_last.new.files)) c.args.known.now.files.items c.add_file.new.known.files.items c.expand_last.new.known.files.items [] (subst (λ x. Asks c.args.open.now.limits.bytes (world (g.F.Files.holds c.args.files.now) (g.F.Files.asked c.args.files.now) (g.F.Files.faults c.args.files.now)) (world (g.F.Files.holds c.read.new.self) (g.F.Files.asked c.read.new.self) (g.F.Files.faults c.read.new.self)) c.args.known.now.files.items x []) (sym (c.add_file.ensures.files ∙ ap (λ x. x ++ (record { name = c.in-Ok.own; bytes = c.in-Ok-read.bytes.items }) ∷ []) c.in-Ok.ensures.files)) (asks_read c.args.open.now.limits.bytes (world (g.F.Files.holds c.args.files.now) (g.F.Files.asked c.args.files.now) (g.F.Files.faults c.args.files.now)) (world (g.F.Files.holds c.read.new.self) (g.F.Files.asked c.read.new.self) (g.F.Files.faults c.read.new.self)) c.args.known.now.files.items (record { name = c.in-Ok.own; bytes = c.in-Ok-read.bytes.items }) c.in-Ok-read.ensures.held c.in-Ok-read.ensures.later (subst (λ n. n ≤ c.args.open.now.limits.bytes + 1) c.in-Ok-read.bytes.ok.0 c.in-Ok-read.ensures.most) (subst (λ n. Appends (g.F.Files.asked c.args.files.now) (g.F.Files.asked c.read.new.self) (n ∷ [])) (c.as_str-2.ensures.value ∙ sym (c.in-Ok.ensures.name ∙ c.as_str.ensures.value)) c.in-Ok-read.ensures.asked) (subst (λ n. Gives (g.F.Files.holds c.args.files.now) n (c.args.open.now.limits.bytes + 1) c.in-Ok-read.bytes.items) (c.as_str-2.ensures.value ∙ sym (c.in-Ok.ensures.name ∙ c.as_str.ensures.value)) c.in-Ok-read.ensures.bytes))) c.in-Ok-Ok.ensures.asks
 
 pub include-returns-in-Ok-Ok-clause-follows : goal.include-returns-in-Ok-Ok-clause-follows
 include-returns-in-Ok-Ok-clause-follows g t c = λ r agrees. (include_opens (limits_of c.args.open.now.limits) c.args.open.now.depth r c.args.known.now c.add_file.new.known (record { name = c.in-Ok.own; bytes = c.in-Ok-read.bytes.items }) c.args.progress.now (string_bytes c.args.name) c.as_str-in-Ok-read.result.now c.args.place (positive c.args.open.now.depth c.if-open-eq0.false) (c.add_file.ensures.files ∙ ap (λ x. x ++ (record { name = c.in-Ok.own; bytes = c.in-Ok-read.bytes.items }) ∷ []) c.in-Ok.ensures.files) (c.add_file.ensures.macros ∙ c.in-Ok.ensures.macros) c.requires.fit.0 c.requires.fit.1 (c.in-Ok.ensures.name ∙ c.as_str.ensures.value) c.as_str-in-Ok-read.ensures.value (agrees_grown c.args.open.now.limits.bytes r c.add_file.new.known.files.items c.expand_last.new.known.files.items c.in-Ok-Ok.ensures.asks.more c.in-Ok-Ok.ensures.asks.grown agrees)) ∙ c.in-Ok-Ok.ensures.follows r agrees ∙ ap (step_of _ _) c.in-Ok-Ok.field-0-is
 
 pub include-returns-in-Ok-Err-clause-asks : goal.include-returns-in-Ok-Err-clause-asks
-include-returns-in-Ok-Err-clause-asks g t c = asks_then c.args.open.now.limits.bytes (world (g.F.Files.holds c.args.files.now) (g.F.Files.asked c.args.files.now) (g.F.Files.faults c.args.files.now)) (world (g.F.Files.holds c.read.new.self) (g.F.Files.asked c.read.new.self) (g.F.Files.faults c.read.new.self)) (world (g.F.Files.holds c.expand_last.new.files) (g.F.Files.asked c.expand_last.new.files) (g.F.Files.faults c.expand_last.new.files)) c.args.known.now.files.items c.add_file.new.known.files.items c.expand_last.new.known.files.items [] (subst (λ x. Asks c.args.open.now.limits.bytes (world (g.F.Files.holds c.args.files.now) (g.F.Files.asked c.args.files.now) (g.F.Files.faults c.args.files.now)) (world (g.F.Files.holds c.read.new.self) (g.F.Files.asked c.read.new.self) (g.F.Files.faults c.read.new.self)) c.args.known.now.files.items x []) (sym (c.add_file.ensures.files ∙ ap (λ x. x ++ (record { name = c.in-Ok.own; bytes = c.in-Ok-read.bytes.items }) ∷ []) c.in-Ok.ensures.files)) (asks_read c.args.open.now.limits.bytes (world (g.F.Files.holds c.args.files.now) (g.F.Files.asked c.args.files.now) (g.F.Files.faults c.args.files.now)) (world (g.F.Files.holds c.read.new.self) (g.F.Files.asked c.read.new.self) (g.F.Files.faults c.read.new.self)) c.args.known.now.files.items (record { name = c.in-Ok.own; bytes = c.in-Ok-read.bytes.items }) c.in-Ok-read.ensures.held c.in-Ok-read.ensures.later c.in-Ok-read.ensures.most (subst (λ n. Appends (g.F.Files.asked c.args.files.now) (g.F.Files.asked c.read.new.self) (n ∷ [])) (c.as_str-2.ensures.value ∙ sym (c.in-Ok.ensures.name ∙ c.as_str.ensures.value)) c.in-Ok-read.ensures.asked) (subst (λ n. Gives (g.F.Files.holds c.args.files.now) n (c.args.open.now.limits.bytes + 1) c.in-Ok-read.bytes.items) (c.as_str-2.ensures.value ∙ sym (c.in-Ok.ensures.name ∙ c.as_str.ensures.value)) c.in-Ok-read.ensures.bytes))) c.in-Ok-Err.ensures.asks
+include-returns-in-Ok-Err-clause-asks g t c = asks_then c.args.open.now.limits.bytes (world (g.F.Files.holds c.args.files.now) (g.F.Files.asked c.args.files.now) (g.F.Files.faults c.args.files.now)) (world (g.F.Files.holds c.read.new.self) (g.F.Files.asked c.read.new.self) (g.F.Files.faults c.read.new.self)) (world (g.F.Files.holds c.expand_last.new.files) (g.F.Files.asked c.expand_last.new.files) (g.F.Files.faults c.expand_last.new.files)) c.args.known.now.files.items c.add_file.new.known.files.items c.expand_last.new.known.files.items [] (subst (λ x. Asks c.args.open.now.limits.bytes (world (g.F.Files.holds c.args.files.now) (g.F.Files.asked c.args.files.now) (g.F.Files.faults c.args.files.now)) (world (g.F.Files.holds c.read.new.self) (g.F.Files.asked c.read.new.self) (g.F.Files.faults c.read.new.self)) c.args.known.now.files.items x []) (sym (c.add_file.ensures.files ∙ ap (λ x. x ++ (record { name = c.in-Ok.own; bytes = c.in-Ok-read.bytes.items }) ∷ []) c.in-Ok.ensures.files)) (asks_read c.args.open.now.limits.bytes (world (g.F.Files.holds c.args.files.now) (g.F.Files.asked c.args.files.now) (g.F.Files.faults c.args.files.now)) (world (g.F.Files.holds c.read.new.self) (g.F.Files.asked c.read.new.self) (g.F.Files.faults c.read.new.self)) c.args.known.now.files.items (record { name = c.in-Ok.own; bytes = c.in-Ok-read.bytes.items }) c.in-Ok-read.ensures.held c.in-Ok-read.ensures.later (subst (λ n. n ≤ c.args.open.now.limits.bytes + 1) c.in-Ok-read.bytes.ok.0 c.in-Ok-read.ensures.most) (subst (λ n. Appends (g.F.Files.asked c.args.files.now) (g.F.Files.asked c.read.new.self) (n ∷ [])) (c.as_str-2.ensures.value ∙ sym (c.in-Ok.ensures.name ∙ c.as_str.ensures.value)) c.in-Ok-read.ensures.asked) (subst (λ n. Gives (g.F.Files.holds c.args.files.now) n (c.args.open.now.limits.bytes + 1) c.in-Ok-read.bytes.items) (c.as_str-2.ensures.value ∙ sym (c.in-Ok.ensures.name ∙ c.as_str.ensures.value)) c.in-Ok-read.ensures.bytes))) c.in-Ok-Err.ensures.asks
 
 pub include-returns-in-Ok-Err-clause-follows : goal.include-returns-in-Ok-Err-clause-follows
 include-returns-in-Ok-Err-clause-follows g t c = λ r agrees. (include_opens (limits_of c.args.open.now.limits) c.args.open.now.depth r c.args.known.now c.add_file.new.known (record { name = c.in-Ok.own; bytes = c.in-Ok-read.bytes.items }) c.args.progress.now (string_bytes c.args.name) c.as_str-in-Ok-read.result.now c.args.place (positive c.args.open.now.depth c.if-open-eq0.false) (c.add_file.ensures.files ∙ ap (λ x. x ++ (record { name = c.in-Ok.own; bytes = c.in-Ok-read.bytes.items }) ∷ []) c.in-Ok.ensures.files) (c.add_file.ensures.macros ∙ c.in-Ok.ensures.macros) c.requires.fit.0 c.requires.fit.1 (c.in-Ok.ensures.name ∙ c.as_str.ensures.value) c.as_str-in-Ok-read.ensures.value (agrees_grown c.args.open.now.limits.bytes r c.add_file.new.known.files.items c.expand_last.new.known.files.items c.in-Ok-Err.ensures.asks.more c.in-Ok-Err.ensures.asks.grown agrees)) ∙ c.in-Ok-Err.ensures.follows r agrees ∙ ap (step_of _ _) c.in-Ok-Err.field-0-is
 
 pub include-returns-in-Ok-read-clause-asks : goal.include-returns-in-Ok-read-clause-asks
-include-returns-in-Ok-read-clause-asks g t c = asks_then c.args.open.now.limits.bytes (world (g.F.Files.holds c.args.files.now) (g.F.Files.asked c.args.files.now) (g.F.Files.faults c.args.files.now)) (world (g.F.Files.holds c.read.new.self) (g.F.Files.asked c.read.new.self) (g.F.Files.faults c.read.new.self)) (world (g.F.Files.holds c.expand_last.new.files) (g.F.Files.asked c.expand_last.new.files) (g.F.Files.faults c.expand_last.new.files)) c.args.known.now.files.items c.add_file.new.known.files.items c.expand_last.new.known.files.items _ (subst (λ x. Asks c.args.open.now.limits.bytes (world (g.F.Files.holds c.args.files.now) (g.F.Files.asked c.args.files.now) (g.F.Files.faults c.args.files.now)) (world (g.F.Files.holds c.read.new.self) (g.F.Files.asked c.read.new.self) (g.F.Files.faults c.read.new.self)) c.args.known.now.files.items x []) (sym (c.add_file.ensures.files ∙ ap (λ x. x ++ (record { name = c.in-Ok.own; bytes = c.in-Ok-read.bytes.items }) ∷ []) c.in-Ok.ensures.files)) (asks_read c.args.open.now.limits.bytes (world (g.F.Files.holds c.args.files.now) (g.F.Files.asked c.args.files.now) (g.F.Files.faults c.args.files.now)) (world (g.F.Files.holds c.read.new.self) (g.F.Files.asked c.read.new.self) (g.F.Files.faults c.read.new.self)) c.args.known.now.files.items (record { name = c.in-Ok.own; bytes = c.in-Ok-read.bytes.items }) c.in-Ok-read.ensures.held c.in-Ok-read.ensures.later c.in-Ok-read.ensures.most (subst (λ n. Appends (g.F.Files.asked c.args.files.now) (g.F.Files.asked c.read.new.self) (n ∷ [])) (c.as_str-2.ensures.value ∙ sym (c.in-Ok.ensures.name ∙ c.as_str.ensures.value)) c.in-Ok-read.ensures.asked) (subst (λ n. Gives (g.F.Files.holds c.args.files.now) n (c.args.open.now.limits.bytes + 1) c.in-Ok-read.bytes.items) (c.as_str-2.ensures.value ∙ sym (c.in-Ok.ensures.name ∙ c.as_str.ensures.value)) c.in-Ok-read.ensures.bytes))) c.in-Err.ensures.asks
+include-returns-in-Ok-read-clause-asks g t c = asks_then c.args.open.now.limits.bytes (world (g.F.Files.holds c.args.files.now) (g.F.Files.asked c.args.files.now) (g.F.Files.faults c.args.files.now)) (world (g.F.Files.holds c.read.new.self) (g.F.Files.asked c.read.new.self) (g.F.Files.faults c.read.new.self)) (world (g.F.Files.holds c.expand_last.new.files) (g.F.Files.asked c.expand_last.new.files) (g.F.Files.faults c.expand_last.new.files)) c.args.known.now.files.items c.add_file.new.known.files.items c.expand_last.new.known.files.items _ (subst (λ x. Asks c.args.open.now.limits.bytes (world (g.F.Files.holds c.args.files.now) (g.F.Files.asked c.args.files.now) (g.F.Files.faults c.args.files.now)) (world (g.F.Files.holds c.read.new.self) (g.F.Files.asked c.read.new.self) (g.F.Files.faults c.read.new.self)) c.args.known.now.files.items x []) (sym (c.add_file.ensures.files ∙ ap (λ x. x ++ (record { name = c.in-Ok.own; bytes = c.in-Ok-read.bytes.items }) ∷ []) c.in-Ok.ensures.files)) (asks_read c.args.open.now.limits.bytes (world (g.F.Files.holds c.args.files.now) (g.F.Files.asked c.args.files.now) (g.F.Files.faults c.args.files.now)) (world (g.F.Files.holds c.read.new.self) (g.F.Files.asked c.read.new.self) (g.F.Files.faults c.read.new.self)) c.args.known.now.files.items (record { name = c.in-Ok.own; bytes = c.in-Ok-read.bytes.items }) c.in-Ok-read.ensures.held c.in-Ok-read.ensures.later (subst (λ n. n ≤ c.args.open.now.limits.bytes + 1) c.in-Ok-read.bytes.ok.0 c.in-Ok-read.ensures.most) (subst (λ n. Appends (g.F.Files.asked c.args.files.now) (g.F.Files.asked c.read.new.self) (n ∷ [])) (c.as_str-2.ensures.value ∙ sym (c.in-Ok.ensures.name ∙ c.as_str.ensures.value)) c.in-Ok-read.ensures.asked) (subst (λ n. Gives (g.F.Files.holds c.args.files.now) n (c.args.open.now.limits.bytes + 1) c.in-Ok-read.bytes.items) (c.as_str-2.ensures.value ∙ sym (c.in-Ok.ensures.name ∙ c.as_str.ensures.value)) c.in-Ok-read.ensures.bytes))) c.in-Err.ensures.asks
 
 pub include-returns-in-Ok-read-clause-follows : goal.include-returns-in-Ok-read-clause-follows
 include-returns-in-Ok-read-clause-follows g t c = λ r agrees.
