@@ -23,7 +23,7 @@ use Rattle.c_machine.specs.Runs.{run_body}
 use Rattle.c_tree.specs.Spelling.{EachHas}
 use Rattle.c_tree.specs.rules.Bodies.{Declared, of_value, Scoped, scoped, locals_of, a_function, RawBody, function_body, items_of, items_in, of_statement, repeated}
 use Rattle.c_tree.specs.rules.Breaks.{breaks_in}
-use Rattle.c_tree.specs.rules.Cells.{out_of_reach}
+use Rattle.c_tree.specs.rules.Reach.{out_of_reach}
 use Rattle.c_tree.specs.rules.Fields.{cell_missing, cells_in, body_cells}
 use Rattle.c_tree.specs.rules.Locals.{used_locals, used_arguments, declared, locals_in_body}
 use Rattle.c_tree.specs.rules.Settings.{settings_in}
