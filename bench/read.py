@@ -4,7 +4,8 @@
     bench/read.py [--runs 3]
 
 To read a file is to take no more time than the compiler needs to check it, where one is there (it finds the small header of
-bench/c); at twice the text a factor of at most 2.2; and at most 40 times the memory of the text. A file of blocks that never
+bench/c); at twice the text a factor of at most 2.2; and at most 40 times the memory of the text. A file that declares one number as a
+constant and then again and again is to be refused, with the same factor and memory. A file of blocks that never
 end is to take at most 150 bytes a token, and so are one of over a million loops in one another, each left and closed as it ought to be,
 and one of an `if` that sets over a million locals in each arm, which are to be read. Nothing is kept: the files are made in a fresh
 folder. It ends with status 1 where a bound is passed.
@@ -237,6 +238,20 @@ def joined(write, size):
     return 11 * count
 
 
+AGAIN = 'double v1 ;\n'
+
+
+def again(write, size):
+    """The same, of one number that is a constant and then is declared again and again. Its tokens are not counted."""
+    write(HEAD)
+    write(MODULE)
+    write('const double v1 = v0 ;\n')
+    for _ in range((size - len(HEAD) - len(MODULE) - len(TAIL)) // len(AGAIN)):
+        write(AGAIN)
+    write(TAIL.format(z=0))
+    return 0
+
+
 class Text:
     """A file in a folder of its own, with its size and, where they count, its tokens."""
 
@@ -254,20 +269,26 @@ def told(name, text, run, notes):
     return bool(notes)
 
 
-def files(runs):
-    """Files of 16 and 32 MB, and one of 64 MB beside the compiler; the number of bounds passed."""
+def doubled(name, make, status, runs):
+    """Files of 16 and 32 MB, which are to end with this status; the number of bounds passed."""
     passed = 0
     with tempfile.TemporaryDirectory() as top:
-        texts = [Text(top, f'{n} MB', whole, n << 20) for n in (16, 32)]
+        texts = [Text(top, f'{n} MB', make, n << 20) for n in (16, 32)]
         taken = measured([(text.folder, [PROGRAM, 'read', 'm.c']) for text in texts], runs)
         for text, run in zip(texts, taken):
             size = run.peak * (1 << 20) / text.size
-            notes = [f'status {run.status}'] if run.status else []
+            notes = [] if run.status == status else [f'status {run.status}']
             notes += [f'{size:.0f} times its size'] if size > MOST else []
-            passed += told('a file as it is printed', text, run, notes)
+            passed += told(name, text, run, notes)
         factor = growth(*taken)
         passed += factor > GROWTH
         print(f'{"for twice the text":>24} {factor:16.2f}  {"" if factor <= GROWTH else "above"}')
+    return passed
+
+
+def largest():
+    """A file of 64 MB beside the compiler; the number of bounds passed."""
+    passed = 0
     with tempfile.TemporaryDirectory() as top:
         text = Text(top, 'large', whole, (64 << 20) - 4096)
         commands = [(text.folder, [PROGRAM, 'read', 'm.c'])]
@@ -295,7 +316,8 @@ def large(name, make, size, status):
 
 def bounds_passed(runs):
     rows = [('blocks without an end', blocks, 32 << 20, 1), ('loops in one another', closed, 60 << 20, 0), ('locals of one if', joined, 60 << 20, 0)]
-    return files(runs) + sum(large(*row) for row in rows)
+    printed = doubled('a file as it is printed', whole, 0, runs) + largest()
+    return printed + doubled('one number again', again, 1, runs) + sum(large(*row) for row in rows)
 
 
 if __name__ == '__main__':

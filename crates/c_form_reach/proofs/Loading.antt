@@ -4,7 +4,7 @@ use Rattle.std.specs.Prelude.{map}
 use Rattle.c_tree.specs.declared.load.LoadFunction.{LoadFunction}
 use Rattle.c_tree.specs.declared.load.LoadFunction.TheVariants.{ResidualResist, ResidualReact, JacobianResist, JacobianReact, JacobianTran, SpiceRhsDc, SpiceRhsTran}
 use Rattle.c_tree.specs.Raw.{RawModule}
-use Rattle.c_tree.specs.rules.Cells.{raw_loads}
+use Rattle.c_tree.specs.rules.Reach.{raw_loads}
 use Rattle.c_raw.specs.Views.{load_view, loads_in, loads_view}
 use Rattle.c_raw.specs.declared.load.RawLoads.{RawLoads}
 

@@ -9,7 +9,7 @@ use Rattle.c_tree.specs.Form.{least_of}
 use Rattle.c_tree.specs.declared.body.CCell.{CCell}
 use Rattle.c_tree.specs.Raw as raw
 use Rattle.c_tree.specs.rules.Bodies.{Item, of_simple, of_test, of_value, items_in, of_statement, set_cells, set_flags}
-use Rattle.c_tree.specs.rules.Cells.{direct, set_deeper, words_of_cells, words_of_flags, words_set_in}
+use Rattle.c_tree.specs.rules.Reach.{direct, set_deeper, words_of_cells, words_of_flags, words_set_in}
 use Rattle.c_raw.specs.Blocks.{simple_view, first_block, later_blocks, blocks_of, block_view, ends, is_body}
 use Rattle.c_raw.specs.declared.body.RawStatement.{RawStatement}
 use Rattle.c_raw.specs.declared.body.RawStatement.TheVariants.{Simple, Leave, If, For, End}

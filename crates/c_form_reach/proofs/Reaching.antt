@@ -12,7 +12,7 @@ use Rattle.c_tree.specs.declared.body.CField.{CField}
 use Rattle.c_tree.specs.Form.{least_of}
 use Rattle.c_tree.specs.Raw.{At, word_at, RawSimple}
 use Rattle.c_tree.specs.rules.Bodies.{Item, of_simple, of_test, of_value, Scoped, BodyKind, a_function, setup_of_model, setup_of_instance, evaluation, of_statement, atoms_of_simple, cell_of, unknown_of, set_cells, set_flags}
-use Rattle.c_tree.specs.rules.Cells.{of_fields, of_instance, is_temperature, out_of_reach, report_tokens, words_of_cells, words_of_flags}
+use Rattle.c_tree.specs.rules.Reach.{of_fields, of_instance, is_temperature, out_of_reach, report_tokens, words_of_cells, words_of_flags}
 use Rattle.c_form.specs.Parts.{alone}
 use Rattle.c_form.proofs.Flat.{flat-flat}
 use Rattle.c_form_reach.specs.Reach.{atom_out, function_atom, function_statement, item_out, model_atom, model_statement, simple_out, solution_at, temperature_of}

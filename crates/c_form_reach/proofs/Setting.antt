@@ -12,7 +12,7 @@ use Rattle.c_tree.specs.declared.body.Level.TheVariants.{Instance, Model}
 use Rattle.c_tree.specs.Raw.{At, word_at}
 use Rattle.c_tree.specs.Text.{field_word}
 use Rattle.c_tree.specs.rules.Bodies.{tokens_of}
-use Rattle.c_tree.specs.rules.Cells.{cells_twice, flags_twice, same_cell, same_level, set_again}
+use Rattle.c_tree.specs.rules.Reach.{cells_twice, flags_twice, same_cell, same_level, set_again}
 use Rattle.c_form.proofs.Naming.{bytes_eq-sym}
 use Rattle.c_form.proofs.Seen.{repeated_at, tokens_at}
 use Rattle.c_form_reach.specs.Settings.{has_name}

@@ -5,7 +5,7 @@ use Rattle.c_tree.specs.declared.body.CAtom.{CAtom}
 use Rattle.c_tree.specs.Raw.{At, word_at, RawSimple}
 use Rattle.c_tree.specs.rules.Bodies.{Item, BodyKind, a_function, setup_of_model, setup_of_instance, evaluation, cell_of, unknown_of, set_cells, set_flags}
 use Rattle.c_form.specs.Items.{in_item}
-use Rattle.c_tree.specs.rules.Cells.{of_fields, of_instance, is_set_up, is_temperature, report_tokens, words_of_cells, words_of_flags}
+use Rattle.c_tree.specs.rules.Reach.{of_fields, of_instance, is_set_up, is_temperature, report_tokens, words_of_cells, words_of_flags}
 
 -- where `x` stands in an atom
 abbrev pub solution_at : At CAtom → List ℕ

@@ -9,7 +9,7 @@ use Rattle.c_tree.specs.declared.body.Level.TheVariants.{Instance, Model}
 use Rattle.c_tree.specs.Raw.{At, RawSimple}
 use Rattle.c_tree.specs.Text.{field_word}
 use Rattle.c_tree.specs.rules.Bodies.{set_cells, set_flags}
-use Rattle.c_tree.specs.rules.Cells.{words_of_cells, words_of_flags}
+use Rattle.c_tree.specs.rules.Reach.{words_of_cells, words_of_flags}
 use Rattle.c_raw.specs.Blocks.{at_view}
 use Rattle.c_raw.specs.declared.token.At.{At as TokenAt}
 use Rattle.c_form_reach.specs.declared.set_cells.SetCells.{SetCells}

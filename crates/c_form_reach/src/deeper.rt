@@ -1,6 +1,6 @@
 //! Cells are set in the top block of a body alone.
 ghost use Rattle.std.specs.Prelude.{◌≡◌, true};
-ghost use Rattle.c_tree.specs.rules.Cells.{set_deeper};
+ghost use Rattle.c_tree.specs.rules.Reach.{set_deeper};
 ghost use Rattle.c_raw.specs.Blocks.{block_view, is_body};
 ghost use Rattle.c_form.specs.Blames.{Blames};
 ghost use Rattle.c_form_reach.specs.Placed.{nothing, placed};

@@ -3,7 +3,7 @@ ghost use Rattle.std.specs.Prelude.{◌≡◌, IfOk, OnOk, map, true};
 ghost use Rattle.std.specs.List.{flat_map};
 ghost use Rattle.c_tree.specs.Form.{least_of};
 ghost use Rattle.c_tree.specs.Raw as raw_tree;
-ghost use Rattle.c_tree.specs.rules.Cells as rule;
+ghost use Rattle.c_tree.specs.rules.Reach as rule;
 ghost use Rattle.c_raw.specs.Views.{file_view, has_bodies, module_view};
 ghost use Rattle.c_form.specs.Blames.{Blames};
 ghost use Rattle.c_form.specs.Bodies.{body_view, is_one_block};

@@ -1,6 +1,6 @@
 //! Which arguments the load functions have.
 ghost use Rattle.std.specs.Prelude.{◌≡◌};
-ghost use Rattle.c_tree.specs.rules.Cells as rule;
+ghost use Rattle.c_tree.specs.rules.Reach as rule;
 
 use c_tree::LoadFunction;
 

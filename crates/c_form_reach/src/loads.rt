@@ -3,7 +3,7 @@
 ghost use Rattle.std.specs.Prelude.{◌≡◌, OnOk, map};
 ghost use Rattle.std.specs.List.{flat_map};
 ghost use Rattle.c_tree.specs.Raw as raw_tree;
-ghost use Rattle.c_tree.specs.rules.Cells.{double_or_missing, factor_reached, load_reached, loads_reached, target_reached};
+ghost use Rattle.c_tree.specs.rules.Reach.{double_or_missing, factor_reached, load_reached, loads_reached, target_reached};
 ghost use Rattle.c_raw.specs.Blocks.{at_view};
 ghost use Rattle.c_raw.specs.Views.{load_view, loads_view, module_view};
 ghost use Rattle.c_form.specs.Blames.{Blames};

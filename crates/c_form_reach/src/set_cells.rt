@@ -2,7 +2,7 @@
 ghost use Rattle.std.specs.Prelude.{◌≡◌, ◌||◌, not, false, ℕ, List, IfOk, OnOk};
 ghost use Rattle.std.specs.Str.{bytes_eq};
 ghost use Rattle.c_tree.specs.declared.body.CCell.{CCell as SpecCell};
-ghost use Rattle.c_tree.specs.rules.Cells.{same_cell};
+ghost use Rattle.c_tree.specs.rules.Reach.{same_cell};
 ghost use Rattle.c_form_reach.specs.Settings.{has_name, was_set};
 
 use c_raw::field_names::field_name;

@@ -3,7 +3,7 @@
 ghost use Rattle.std.specs.Prelude.{◌≡◌, OnOk, true};
 ghost use Rattle.std.specs.List.{flat_map};
 ghost use Rattle.c_tree.specs.rules.Bodies as bodies;
-ghost use Rattle.c_tree.specs.rules.Cells as rule;
+ghost use Rattle.c_tree.specs.rules.Reach as rule;
 ghost use Rattle.c_raw.specs.Blocks.{at_view, simple_view};
 ghost use Rattle.c_form.specs.Blames.{Blames};
 ghost use Rattle.c_form.specs.Bodies.{body_view, is_one_block};

@@ -1,7 +1,7 @@
 //! No statement of a body sets the temperature.
 ghost use Rattle.std.specs.Prelude.{◌≡◌, true};
 ghost use Rattle.c_tree.specs.rules.Bodies.{of_statement};
-ghost use Rattle.c_tree.specs.rules.Cells as rule;
+ghost use Rattle.c_tree.specs.rules.Reach as rule;
 ghost use Rattle.c_raw.specs.Blocks.{block_view, is_body, simple_view};
 ghost use Rattle.c_form.specs.Blames.{Blames};
 ghost use Rattle.c_form.specs.Bodies.{in_statement};

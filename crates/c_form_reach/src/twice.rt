@@ -1,7 +1,7 @@
 //! Each cell is set at most once in the top block of a body, and so is each collapse flag.
 ghost use Rattle.std.specs.Prelude.{◌≡◌, ◌++◌, IfOk, OnOk, map, true};
 ghost use Rattle.c_tree.specs.rules.Bodies.{set_cells, set_flags};
-ghost use Rattle.c_tree.specs.rules.Cells as rule;
+ghost use Rattle.c_tree.specs.rules.Reach as rule;
 ghost use Rattle.c_raw.specs.Blocks.{at_view, block_view, is_body};
 ghost use Rattle.c_form.specs.Blames.{Blames};
 ghost use Rattle.c_form_reach.specs.Placed.{nothing, placed, walked};

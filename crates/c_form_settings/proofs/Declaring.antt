@@ -1,24 +1,28 @@
 -- What a declaration adds to what is still to be blamed.
 use Rattle.std.proofs.Common.{◌≡◌, ◌<◌, ◌+◌, ◌-◌, ℕ, suc, List, [], ◌∷◌, ◌++◌, length, get_or, drop, refl, ap, sym, ◌∙◌, inl, inr, arith, subst}
-use Rattle.std.specs.Prelude.{Bool, true, false, if◌then◌else◌, ◌==◌, nat_eq, Option, Some, None}
+use Rattle.std.specs.Prelude.{Bool, true, false, if◌then◌else◌, ◌==◌, ◌||◌, nat_eq, Option, Some, None}
+use Rattle.std.specs.Option.{is_some}
 use Rattle.std.proofs.lemmas.Bool.{eqb-true, eq-eqb}
 use Rattle.indexmap.specs.IndexMap.{get}
 use Rattle.c_tree.specs.Form.{least_of}
+use Rattle.c_raw.specs.declared.body.RawSimple.{RawSimple}
 use Rattle.c_raw.specs.declared.body.RawStatement.{RawStatement}
+use Rattle.c_raw.specs.declared.body.RawStatement.TheVariants.{Simple}
 use Rattle.c_form.specs.Blames.{Blames, lesser}
 use Rattle.c_form.specs.OpenBlocks.{innermost_first}
 use Rattle.c_raw.proofs.Elements.{next-is}
 use Rattle.c_form_settings.specs.declared.duty.Duty.{Duty}
 use Rattle.c_form_settings.specs.declared.pass.Frame.{Frame}
 use Rattle.c_form_settings.specs.declared.pass.Pass.{Pass}
+use Rattle.c_form_settings.specs.declared.start.Start.{Start}
 use Rattle.c_form_settings.specs.declared.state.Event.{Event}
 use Rattle.c_form_settings.specs.declared.state.Event.TheVariants.{Choice, Loop, Break, Close, Set}
 use Rattle.c_form_settings.specs.declared.state.Local.{Local}
 use Rattle.c_form_settings.specs.declared.state.State.{State}
 use Rattle.c_form_settings.specs.declared.state.State.TheVariants.{Settled, AwaitsChoice, FirstArm, FirstArmSet, SecondArm, SecondArmSet, AwaitsLoop, BeforeBreak, BehindBreak, Gone}
-use Rattle.c_form_settings.specs.Passes.{Above, AllAbove, Among, Bounds, Declares, Holds, IsPass, Keeps, depth_of, headed, is_live, joined, new_local, stack_at, waiting, waits}
+use Rattle.c_form_settings.specs.Passes.{Above, Adds, AllAbove, Among, Bounds, Declares, Holds, IsPass, Keeps, Knows, Steps, Uses, depth_of, headed, joined, new_local, stack_at, waiting, waits}
 use Rattle.c_form_settings.specs.States.{size, duties, inmost}
-use Rattle.c_form_settings.specs.Walks.{due_flat, settings_flat}
+use Rattle.c_form_settings.specs.Walks.{due_flat, start_of, is_among, first_flat, with_start, declared_behind, settings_flat}
 use Rattle.c_form_settings.proofs.Bounding.{blamed-above, both-above, first-above, old-above, same-bounds, second-above, tokens-above}
 use Rattle.c_form_settings.proofs.Covering.{declared-outer, widened}
 use Rattle.c_form_settings.proofs.Keeping.{keeps-then}
@@ -154,26 +158,14 @@ fresh-duties BeforeBreak e = let no : ⊥ = omega (arith, e) in absurd no
 fresh-duties BehindBreak e = let no : ⊥ = omega (arith, e) in absurd no
 fresh-duties Gone e = let no : ⊥ = omega (arith, e) in absurd no
 
-dead-stack : (depth : ℕ) (entry : Option Local) → is_live entry ≡ false → stack_at depth entry ≡ []
-dead-stack depth None e = refl
-dead-stack depth (Some l) e = by_state l.state e
-  where
-    by_state : (s : State) → is_live (Some (let k : Local = record { base = l.base; state = s } in k)) ≡ false → duties (depth - l.base) s ≡ []
-    by_state Settled f = cc f
-    by_state AwaitsChoice f = cc f
-    by_state FirstArm f = cc f
-    by_state FirstArmSet f = cc f
-    by_state SecondArm f = cc f
-    by_state SecondArmSet f = cc f
-    by_state AwaitsLoop f = cc f
-    by_state BeforeBreak f = cc f
-    by_state BehindBreak f = cc f
-    by_state Gone f = refl
+unknown-stack : (depth : ℕ) (entry : Option Local) → is_some entry ≡ false → stack_at depth entry ≡ []
+unknown-stack depth None e = refl
+unknown-stack depth (Some l) e = cc e
 
-pub declare-keeps : (least : Option ℕ) (number : ℕ) (state : State) (before after : Pass) (rest : List RawStatement) (others : List ℕ)
-    → is_live (get nat_eq before.locals number) ≡ false → size state ≡ 1 → Declares number state before after
+declare-keeps : (least : Option ℕ) (number : ℕ) (state : State) (before after : Pass) (rest : List RawStatement) (others : List ℕ)
+    → is_some (get nat_eq before.locals number) ≡ false → size state ≡ 1 → Declares number state before after
     → Keeps least least before after rest rest (due_flat number (inmost state ∷ []) rest ++ others) others
-declare-keeps least number state before after rest others dead one d = record {
+declare-keeps least number state before after rest others unknown one d = record {
   forth = λ bound k. record {
     least = k.least;
     due = λ i. subst (λ o. AllAbove bound (due_flat i (stack_at (depth_of after) o) rest)) (sym (d.locals i))
@@ -213,32 +205,66 @@ declare-keeps least number state before after rest others dead one d = record {
         → AllAbove bound (due_flat i (stack_at (depth_of before) (get nat_eq before.locals i)) rest)
     back_at bound i true e a =
         let none : stack_at (depth_of before) (get nat_eq before.locals i) ≡ [] =
-        dead-stack (depth_of before) (get nat_eq before.locals i) (subst (λ n. is_live (get nat_eq before.locals n) ≡ false) (eqb-true number i e) dead) in
+        unknown-stack (depth_of before) (get nat_eq before.locals i)
+        (subst (λ n. is_some (get nat_eq before.locals n) ≡ false) (eqb-true number i e) unknown) in
         subst (λ dues. AllAbove bound (due_flat i dues rest)) (sym none) tt
     back_at bound i false e a = subst (λ n. AllAbove bound (due_flat i (stack_at n (get nat_eq before.locals i)) rest)) d.depth a
 
--- tokens that are blamed at once
-pub blamed-keeps : (old new : Option ℕ) (pass : Pass) (rest : List RawStatement) (tokens others : List ℕ) → Blames old new tokens
-    → Keeps old new pass pass rest rest (tokens ++ others) others
-blamed-keeps old new pass rest tokens others b = record {
-  forth = λ bound k. record {
-    least = blamed-above bound old new tokens b k.least (first-above bound tokens others k.others);
-    due = k.due;
-    others = second-above bound tokens others k.others;
-  };
-  back = λ bound k. record {
-    least = old-above bound old new tokens b k.least;
-    due = k.due;
-    others = both-above bound tokens others (tokens-above bound old new tokens b k.least) k.others;
-  };
+-- nothing happens
+same-keeps : (least : Option ℕ) (pass : Pass) (rest : List RawStatement) (others : List ℕ) → Keeps least least pass pass rest rest others others
+same-keeps least pass rest others = record { forth = λ bound k. k; back = λ bound k. k }
+
+-- a declaration of a number that was declared before
+pub adds-known : (pass : Pass) (s : RawSimple) (start : Start) → start_of s ≡ Some start → is_some (get nat_eq pass.locals start.number) ≡ true
+    → IsPass pass → Adds pass pass s
+adds-known pass s start e there h = record {
+  holds = h;
+  known = λ before k.
+      subst (λ o. Knows (with_start before o) pass) (sym e)
+      (subst (λ b. Knows (if b then before else start.number ∷ before) pass) (among before k) k);
+  keeps = λ before found rest others k.
+      subst (λ o. Keeps found found pass pass rest rest (first_flat before o rest ++ others) others) (sym e)
+      (subst
+      (λ b. Keeps found found pass pass rest rest ((if b then [] else due_flat start.number (inmost start.state ∷ []) rest) ++ others) others)
+      (among before k) (same-keeps found pass rest others));
 }
+  where
+    among : (before : List ℕ) → Knows before pass → true ≡ is_among before start.number
+    among before k = sym there ∙ k start.number
+
+-- what is known behind the first declaration of a number
+now-known : (number : ℕ) (state : State) (old new : Pass) (before : List ℕ) → Declares number state old new → Knows before old
+    → Knows (number ∷ before) new
+now-known number state old new before d k = λ i. ap is_some (d.locals i) ∙ by_test i (number == i)
+  where
+    by_test : (i : ℕ) (b : Bool) → is_some (if b then Some (new_local old state) else get nat_eq old.locals i) ≡ (b || is_among before i)
+    by_test i true = refl
+    by_test i false = k i
+
+pub adds-new : (old new : Pass) (s : RawSimple) (start : Start) → start_of s ≡ Some start
+    → is_some (get nat_eq old.locals start.number) ≡ false → size start.state ≡ 1 → Declares start.number start.state old new → Adds old new s
+adds-new old new s start e unknown one d = record {
+  holds = d.holds;
+  known = λ before k.
+      subst (λ o. Knows (with_start before o) new) (sym e)
+      (subst (λ b. Knows (if b then before else start.number ∷ before) new) (among before k)
+      (now-known start.number start.state old new before d k));
+  keeps = λ before found rest others k.
+      subst (λ o. Keeps found found old new rest rest (first_flat before o rest ++ others) others) (sym e)
+      (subst
+      (λ b. Keeps found found old new rest rest ((if b then [] else due_flat start.number (inmost start.state ∷ []) rest) ++ others) others)
+      (among before k) (declare-keeps found start.number start.state old new rest others unknown one d));
+}
+  where
+    among : (before : List ℕ) → Knows before old → false ≡ is_among before start.number
+    among before k = sym unknown ∙ k start.number
 
 -- a whole pass
 none-due : (dues : List Duty) (i : ℕ) → due_flat i dues [] ≡ []
 none-due [] i = refl
 none-due (due ∷ dues) i = refl
 
-pub pass-blames : (old new : Option ℕ) (before after : Pass) (list : List RawStatement) (tokens : List ℕ)
+pass-blames : (old new : Option ℕ) (before after : Pass) (list : List RawStatement) (tokens : List ℕ)
     → ((i : ℕ) → get nat_eq before.locals i ≡ None) → Keeps old new before after list [] tokens [] → Blames old new tokens
 pass-blames old new before after list tokens none k = record { is = same-bounds new (lesser old (least_of tokens)) up down }
   where
@@ -261,13 +287,50 @@ pass-blames old new before after list tokens none k = record { is = same-bounds 
       others = tokens-above bound old (lesser old (least_of tokens)) tokens whole a;
     })).least
 
--- a pass up to a statement, and behind it
-pub next-keeps : (old mid new : Option ℕ) (before between after : Pass) (list rest : List RawStatement) (k : ℕ) (s : RawStatement) (tokens : List ℕ)
-    → k < length list → s ≡ get_or list k s → rest ≡ drop (k + 1) list
-    → Keeps old mid before between list (drop k list) tokens (settings_flat (drop k list))
-    → Keeps mid new between after (s ∷ rest) rest (settings_flat (s ∷ rest)) (settings_flat rest)
-    → Keeps old new before after list (drop (k + 1) list) tokens (settings_flat (drop (k + 1) list))
-next-keeps old mid new before between after list rest k s tokens h at e a b =
-    let here : drop k list ≡ s ∷ rest = next-is list k s h at ∙ ap (λ l. s ∷ l) (sym e) in
-    subst (λ l. Keeps old new before after list l tokens (settings_flat l)) e
-    (keeps-then (subst (λ l. Keeps old mid before between list l tokens (settings_flat l)) here a) b)
+-- a statement without blocks: what it reads and sets, and then what it declares
+pub steps-simple : (found left : Option ℕ) (old mid new : Pass) (s : RawSimple) → Uses found left old mid s → Adds mid new s
+    → Steps found left old new (Simple s)
+steps-simple found left old mid new s u a = record {
+  holds = a.holds;
+  known = λ before k. a.known before (u.known before k);
+  keeps = λ before rest k.
+      keeps-then (u.keeps rest (first_flat before (start_of s) rest ++ settings_flat (with_start before (start_of s)) rest))
+      (a.keeps before left rest (settings_flat (with_start before (start_of s)) rest) (u.known before k));
+}
+
+-- a pass that has come so far: which numbers were declared, and that the same is still to be blamed, but what was blamed
+pub record Reached (first now : Option ℕ) (begin pass : Pass) (list rest : List RawStatement) : Type 0 where
+  pub holds : IsPass pass
+  pub before : List ℕ
+  pub known : Knows before pass
+  pub keeps : Keeps first now begin pass list rest (settings_flat [] list) (settings_flat before rest)
+
+-- its begin
+pub reached-none : (least : Option ℕ) (pass : Pass) (list : List RawStatement) → IsPass pass → ((i : ℕ) → get nat_eq pass.locals i ≡ None)
+    → Reached least least pass pass list list
+reached-none least pass list h none = record {
+  holds = h;
+  before = [];
+  known = λ i. ap is_some (none i);
+  keeps = same-keeps least pass list (settings_flat [] list);
+}
+
+-- a statement further
+pub reached-next : (old mid new : Option ℕ) (begin between after : Pass) (list : List RawStatement) (k : ℕ) (s : RawStatement)
+    → k < length list → s ≡ get_or list k s → Reached old mid begin between list (drop k list) → Steps mid new between after s
+    → Reached old new begin after list (drop (k + 1) list)
+reached-next old mid new begin between after list k s h at r step = record {
+  holds = step.holds;
+  before = declared_behind r.before s;
+  known = step.known r.before r.known;
+  keeps = keeps-then
+      (subst (λ l. Keeps old mid begin between list l (settings_flat [] list) (settings_flat r.before l)) (next-is list k s h at) r.keeps)
+      (step.keeps r.before (drop (k + 1) list) r.known);
+}
+
+-- the end of the list
+pub reached-end : (old new : Option ℕ) (begin after : Pass) (list rest : List RawStatement) → rest ≡ []
+    → ((i : ℕ) → get nat_eq begin.locals i ≡ None) → Reached old new begin after list rest → Blames old new (settings_flat [] list)
+reached-end old new begin after list rest e none r =
+    pass-blames old new begin after list (settings_flat [] list) none
+    (subst (λ l. Keeps old new begin after list l (settings_flat [] list) (settings_flat r.before l)) e r.keeps)

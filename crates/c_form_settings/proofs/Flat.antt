@@ -1,11 +1,12 @@
 -- Walks over flat lists find what the rule finds in the blocks.
 use Rattle.std.proofs.Common.{◌≡◌, ◌≤◌, ℕ, zero, suc, List, [], ◌∷◌, ◌++◌, length, refl, ap, sym, ◌∙◌, append_assoc, arith}
-use Rattle.std.specs.Prelude.{true}
+use Rattle.std.specs.Prelude.{Bool, true, false, if◌then◌else◌, map}
 use Rattle.std.specs.List.{flat_map}
 use Rattle.std.proofs.lemmas.List.{append-nil}
 use Rattle.c_tree.specs.Form.{least_of}
 use Rattle.c_tree.specs.Raw as raw
-use Rattle.c_tree.specs.rules.Settings.{after_declaration, settings_in}
+use Rattle.c_tree.specs.rules.Locals.{declared}
+use Rattle.c_tree.specs.rules.Settings.{Declaration, declaration, blamed_behind, declarations, first_of_each, settings_in}
 use Rattle.c_raw.specs.Blocks.{at_view, simple_view, first_block, later_blocks, blocks_of, block_view, ends, is_body}
 use Rattle.c_raw.specs.declared.body.RawSimple.{RawSimple}
 use Rattle.c_raw.specs.declared.body.RawSimple.TheVariants.{Constant, Join, Head, Assign, SetCell, SetCollapse, Report}
@@ -16,12 +17,12 @@ use Rattle.c_form.proofs.Open.{over, over-one, over-two, over-three}
 use Rattle.c_form_settings.specs.declared.duty.Duty.{Duty}
 use Rattle.c_form_settings.specs.declared.duty.Duty.TheVariants as duty
 use Rattle.c_form_settings.specs.Duties.{reads_under, simple_under, behind_simple, behind_break, in_arm, behind_if, in_loop, behind_loop, end_under}
-use Rattle.c_form_settings.specs.Walks.{due_flat, declaration_flat, settings_flat}
+use Rattle.c_form_settings.specs.Walks.{due_flat, is_among, settings_flat}
 use Rattle.c_form_settings.proofs.Least.{least-both}
 use Rattle.c_form_settings.proofs.Due.{due_in, unset-in, join-in, head-in}
 
 -- lists, put together from the left and from the right
-left_two : (h x y : List ℕ) → h ++ (x ++ y) ≡ (h ++ x) ++ y
+left_two : {T : Type 0} (h x y : List T) → h ++ (x ++ y) ≡ (h ++ x) ++ y
 left_two h x y = sym (append_assoc h x y)
 
 left_three : (x y z w : List ℕ) → x ++ (y ++ (z ++ w)) ≡ ((x ++ y) ++ z) ++ w
@@ -87,52 +88,86 @@ due-block i due n rest e =
     one : (n : ℕ) → length (due ∷ []) ≤ suc n
     one n = omega arith
 
-pub declaration-block : (s : RawSimple) (n : ℕ) (rest : List RawStatement) → ends (suc n) rest ≡ true
-    → least_of (declaration_flat s rest) ≡ least_of (after_declaration (simple_view s) (first_block (blocks_of rest)))
-declaration-block (Constant ty i at side) n rest e =
-    ap least_of (due-block i.value duty.Unset n rest e ∙ unset-in i.value (first_block (blocks_of rest)))
-declaration-block (Join ty i) n rest e =
-    ap least_of (due-block i.value duty.Join n rest e) ∙ join-in i.value (first_block (blocks_of rest))
-declaration-block (Head ty i first) n rest e =
-    ap least_of (due-block i.value duty.Head n rest e ∙ head-in i.value (first_block (blocks_of rest)))
-declaration-block (Assign i value) n rest e = refl
-declaration-block (SetCell cell value) n rest e = refl
-declaration-block (SetCollapse pair value) n rest e = refl
-declaration-block (Report id) n rest e = refl
-
--- the first blocks of a list, and the others
-one-first : (bs : List raw.RawBlock) → flat_map settings_in bs ≡ settings_in (first_block bs) ++ flat_map settings_in (later_blocks bs)
+-- the declarations of the first blocks of a list, and those of the others
+one-first : (bs : List raw.RawBlock) → flat_map declarations bs ≡ declarations (first_block bs) ++ flat_map declarations (later_blocks bs)
 one-first [] = refl
 one-first (b ∷ bs) = refl
 
-two-first : (bs : List raw.RawBlock) → flat_map settings_in bs
-    ≡ (settings_in (first_block bs) ++ settings_in (first_block (later_blocks bs))) ++ flat_map settings_in (later_blocks (later_blocks bs))
+two-first : (bs : List raw.RawBlock) → flat_map declarations bs
+    ≡ (declarations (first_block bs) ++ declarations (first_block (later_blocks bs))) ++ flat_map declarations (later_blocks (later_blocks bs))
 two-first bs =
-    one-first bs ∙ ap (λ l. settings_in (first_block bs) ++ l) (one-first (later_blocks bs))
-    ∙ left_two (settings_in (first_block bs)) (settings_in (first_block (later_blocks bs))) (flat_map settings_in (later_blocks (later_blocks bs)))
+    one-first bs ∙ ap (λ l. declarations (first_block bs) ++ l) (one-first (later_blocks bs))
+    ∙ left_two (declarations (first_block bs)) (declarations (first_block (later_blocks bs))) (flat_map declarations (later_blocks (later_blocks bs)))
 
-three-first : (bs : List raw.RawBlock) → flat_map settings_in bs
-    ≡ ((settings_in (first_block bs) ++ settings_in (first_block (later_blocks bs))) ++ settings_in (first_block (later_blocks (later_blocks bs))))
-    ++ flat_map settings_in (later_blocks (later_blocks (later_blocks bs)))
+three-first : (bs : List raw.RawBlock) → flat_map declarations bs
+    ≡ ((declarations (first_block bs) ++ declarations (first_block (later_blocks bs))) ++ declarations (first_block (later_blocks (later_blocks bs))))
+    ++ flat_map declarations (later_blocks (later_blocks (later_blocks bs)))
 three-first bs =
-    let head : List ℕ = settings_in (first_block bs) ++ settings_in (first_block (later_blocks bs)) in
+    let head : List Declaration = declarations (first_block bs) ++ declarations (first_block (later_blocks bs)) in
     two-first bs ∙ ap (λ l. head ++ l) (one-first (later_blocks (later_blocks bs)))
-    ∙ left_two head (settings_in (first_block (later_blocks (later_blocks bs)))) (flat_map settings_in (later_blocks (later_blocks (later_blocks bs))))
+    ∙ left_two head (declarations (first_block (later_blocks (later_blocks bs)))) (flat_map declarations (later_blocks (later_blocks (later_blocks bs))))
 
-pub settings-blocks : (n : ℕ) (body : List RawStatement) → ends n body ≡ true → least_of (settings_flat body) ≡ least_of (flat_map settings_in (blocks_of body))
-settings-blocks zero [] e = refl
-settings-blocks zero (s ∷ rest) e = cc e
-settings-blocks (suc n) [] e = cc e
-settings-blocks (suc n) (Simple s ∷ rest) e =
+-- what the first of some declarations blame, where certain numbers are declared before
+abbrev blamed_by : List ℕ → List Declaration → List ℕ
+blamed_by before ds = flat_map blamed_behind (first_of_each before ds)
+
+-- a declaration before others, by whether its number is declared before
+first-then : (known : Bool) (before : List ℕ) (number : ℕ) (tokens : List ℕ) (rest : List RawStatement) (d : Declaration) (ds : List Declaration)
+    → least_of tokens ≡ least_of (blamed_behind d)
+    → ((numbers : List ℕ) → least_of (settings_flat numbers rest) ≡ least_of (blamed_by numbers ds))
+    → least_of ((if known then [] else tokens) ++ settings_flat (if known then before else number ∷ before) rest)
+    ≡ least_of (flat_map blamed_behind (if known then first_of_each before ds else d ∷ first_of_each (number ∷ before) ds))
+first-then true before number tokens rest d ds here later = later before
+first-then false before number tokens rest d ds here later =
+    least-both tokens (settings_flat (number ∷ before) rest) (blamed_behind d) (blamed_by (number ∷ before) ds) here (later (number ∷ before))
+
+-- a statement without blocks, and the declarations behind it
+first-simple : (s : RawSimple) (n : ℕ) (before : List ℕ) (rest : List RawStatement) → ends (suc n) rest ≡ true
+    → ((numbers : List ℕ) → least_of (settings_flat numbers rest) ≡ least_of (blamed_by numbers (flat_map declarations (blocks_of rest))))
+    → least_of (settings_flat before (Simple s ∷ rest))
+    ≡ least_of (blamed_by before (map (declaration (simple_view s) (first_block (blocks_of rest))) (declared (simple_view s))
+    ++ flat_map declarations (blocks_of rest)))
+first-simple (Constant ty i at side) n before rest e later =
+    let here : raw.RawBlock = first_block (blocks_of rest) in
+    first-then (is_among before i.value) before i.value (due_flat i.value (duty.Unset ∷ []) rest) rest
+    (declaration (simple_view (Constant ty i at side)) here (at_view i)) (flat_map declarations (blocks_of rest))
+    (ap least_of (due-block i.value duty.Unset n rest e ∙ unset-in i.value here)) later
+first-simple (Join ty i) n before rest e later =
+    let here : raw.RawBlock = first_block (blocks_of rest) in
+    first-then (is_among before i.value) before i.value (due_flat i.value (duty.Join ∷ []) rest) rest
+    (declaration (simple_view (Join ty i)) here (at_view i)) (flat_map declarations (blocks_of rest))
+    (ap least_of (due-block i.value duty.Join n rest e) ∙ join-in i.value here) later
+first-simple (Head ty i first) n before rest e later =
+    let here : raw.RawBlock = first_block (blocks_of rest) in
+    first-then (is_among before i.value) before i.value (due_flat i.value (duty.Head ∷ []) rest) rest
+    (declaration (simple_view (Head ty i first)) here (at_view i)) (flat_map declarations (blocks_of rest))
+    (ap least_of (due-block i.value duty.Head n rest e ∙ head-in i.value here)) later
+first-simple (Assign i value) n before rest e later = later before
+first-simple (SetCell cell value) n before rest e later = later before
+first-simple (SetCollapse pair value) n before rest e later = later before
+first-simple (Report id) n before rest e later = later before
+
+pub settings-blocks : (n : ℕ) (before : List ℕ) (body : List RawStatement) → ends n body ≡ true
+    → least_of (settings_flat before body) ≡ least_of (blamed_by before (flat_map declarations (blocks_of body)))
+settings-blocks zero before [] e = refl
+settings-blocks zero before (s ∷ rest) e = cc e
+settings-blocks (suc n) before [] e = cc e
+settings-blocks (suc n) before (Simple s ∷ rest) e =
     let bs : List raw.RawBlock = blocks_of rest in
-    let after : List ℕ = after_declaration (simple_view s) (first_block bs) in
-    least-both (declaration_flat s rest) (settings_flat rest) after (flat_map settings_in bs) (declaration-block s n rest e) (settings-blocks (suc n) rest e)
-    ∙ ap least_of (ap (λ l. after ++ l) (one-first bs) ∙ left_two after (settings_in (first_block bs)) (flat_map settings_in (later_blocks bs)))
-settings-blocks (suc n) (Leave at a ∷ rest) e = settings-blocks (suc n) rest e ∙ ap least_of (one-first (blocks_of rest))
-settings-blocks (suc n) (If a ∷ rest) e = settings-blocks (suc (suc (suc n))) rest e ∙ ap least_of (three-first (blocks_of rest))
-settings-blocks (suc n) (For ∷ rest) e = settings-blocks (suc (suc n)) rest e ∙ ap least_of (two-first (blocks_of rest))
-settings-blocks (suc n) (End at ∷ rest) e = settings-blocks n rest e
+    let own : List Declaration = map (declaration (simple_view s) (first_block bs)) (declared (simple_view s)) in
+    first-simple s n before rest e (λ numbers. settings-blocks (suc n) numbers rest e)
+    ∙ ap (λ ds. least_of (blamed_by before ds))
+    (ap (λ l. own ++ l) (one-first bs) ∙ left_two own (declarations (first_block bs)) (flat_map declarations (later_blocks bs)))
+settings-blocks (suc n) before (Leave at a ∷ rest) e =
+    settings-blocks (suc n) before rest e ∙ ap (λ ds. least_of (blamed_by before ds)) (one-first (blocks_of rest))
+settings-blocks (suc n) before (If a ∷ rest) e =
+    settings-blocks (suc (suc (suc n))) before rest e ∙ ap (λ ds. least_of (blamed_by before ds)) (three-first (blocks_of rest))
+settings-blocks (suc n) before (For ∷ rest) e =
+    settings-blocks (suc (suc n)) before rest e ∙ ap (λ ds. least_of (blamed_by before ds)) (two-first (blocks_of rest))
+settings-blocks (suc n) before (End at ∷ rest) e = settings-blocks n before rest e
 
-pub settings-body : (body : List RawStatement) → is_body body ≡ true → least_of (settings_flat body) ≡ least_of (settings_in (block_view body))
+pub settings-body : (body : List RawStatement) → is_body body ≡ true → least_of (settings_flat [] body) ≡ least_of (settings_in (block_view body))
 settings-body body e =
-    settings-blocks 1 body e ∙ ap least_of (ap (flat_map settings_in) (one-block body e) ∙ append-nil (settings_in (block_view body)))
+    settings-blocks 1 [] body e
+    ∙ ap (λ ds. least_of (blamed_by [] ds))
+    (ap (flat_map declarations) (one-block body e) ∙ append-nil (declarations (block_view body)))

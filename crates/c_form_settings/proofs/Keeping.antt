@@ -22,9 +22,9 @@ use Rattle.c_form_settings.specs.declared.state.Local.{Local}
 use Rattle.c_form_settings.specs.declared.state.State.{State}
 use Rattle.c_form_settings.specs.declared.state.State.TheVariants.{Settled, AwaitsChoice, FirstArm, FirstArmSet, SecondArm, SecondArmSet, AwaitsLoop, BeforeBreak, BehindBreak, Gone}
 use Rattle.c_form_settings.specs.Duties.{end_under, is_unread, lacks_setting, reads_under}
-use Rattle.c_form_settings.specs.Passes.{AllAbove, Among, Covers, Fits, IsPass, Keeps, Moves, depth_of, due_at, early_in, lacking_in, next_at, stack_at}
+use Rattle.c_form_settings.specs.Passes.{AllAbove, Among, Covers, Fits, IsPass, Keeps, Knows, Moves, Steps, depth_of, due_at, early_in, lacking_in, next_at, stack_at}
 use Rattle.c_form_settings.specs.States.{size, inmost, further, is_early, here, duties, due_here, becomes, open_after}
-use Rattle.c_form_settings.specs.Walks.{due_flat}
+use Rattle.c_form_settings.specs.Walks.{due_flat, settings_flat}
 use Rattle.c_form_settings.proofs.Bounding.{among-above, blamed-above, both-above, each-above, first-above, old-above, second-above, tokens-above, where-atoms, where-back, where-forth}
 use Rattle.c_form_settings.proofs.Changes.{nowhere}
 use Rattle.c_form_settings.proofs.Moving.{depth-blocks}
@@ -162,7 +162,7 @@ early-back bound pass atoms a =
 pub fits-of : (pass : Pass) → IsPass pass → (i : ℕ) → Fits (depth_of pass) (get nat_eq pass.locals i)
 fits-of pass h i = subst (λ d. Fits d (get nat_eq pass.locals i)) (sym (depth-blocks pass)) (h i).fits
 
-pub choice-keeps : (old new : Option ℕ) (before after : Pass) (test : At CAtom) (rest : List RawStatement) (others : List ℕ)
+choice-keeps : (old new : Option ℕ) (before after : Pass) (test : At CAtom) (rest : List RawStatement) (others : List ℕ)
     → Blames old new (flat_map (early_in before) (at_view test ∷ [])) → IsPass before → Moves Choice before after
     → Keeps old new before after (If test ∷ rest) rest others others
 choice-keeps old new before after test rest others b h m =
@@ -171,7 +171,7 @@ choice-keeps old new before after test rest others b h m =
     (λ i. choice-entry i (depth_of before) rest test (get nat_eq before.locals i) (fits-of before h i))
     b (λ bound. early-forth bound before (at_view test ∷ [])) (λ bound. early-back bound before (at_view test ∷ [])) m
 
-pub break-keeps : (old new : Option ℕ) (before after : Pass) (at : ℕ) (test : At CAtom) (rest : List RawStatement) (others : List ℕ)
+break-keeps : (old new : Option ℕ) (before after : Pass) (at : ℕ) (test : At CAtom) (rest : List RawStatement) (others : List ℕ)
     → Blames old new (flat_map (early_in before) (at_view test ∷ [])) → IsPass before → Moves Break before after
     → Keeps old new before after (Leave at test ∷ rest) rest others others
 break-keeps old new before after at test rest others b h m =
@@ -180,7 +180,7 @@ break-keeps old new before after at test rest others b h m =
     (λ i. break-entry i (depth_of before) rest at test (get nat_eq before.locals i) (fits-of before h i))
     b (λ bound. early-forth bound before (at_view test ∷ [])) (λ bound. early-back bound before (at_view test ∷ [])) m
 
-pub loop-keeps : (least : Option ℕ) (before after : Pass) (rest : List RawStatement) (others : List ℕ)
+loop-keeps : (least : Option ℕ) (before after : Pass) (rest : List RawStatement) (others : List ℕ)
     → IsPass before → Moves Loop before after → Keeps least least before after (For ∷ rest) rest others others
 loop-keeps least before after rest others h m =
     event-keeps Loop least least before after For rest others [] (λ i. [])
@@ -232,7 +232,7 @@ lacking-forth bound pass at h a i = by_test (lacks_setting (due_at (depth_of pas
         let listed : Among i pass.frame.ending.items = lacking-listed i (depth_of pass) pass.frame (get nat_eq pass.locals i) covered e in
         subst (λ b. AllAbove bound (if b then at ∷ [] else [])) e (among-above bound i (lacking_in pass at) pass.frame.ending.items listed a)
 
-pub end-keeps : (old new : Option ℕ) (before after : Pass) (at : ℕ) (rest : List RawStatement) (others : List ℕ)
+end-keeps : (old new : Option ℕ) (before after : Pass) (at : ℕ) (rest : List RawStatement) (others : List ℕ)
     → Blames old new (flat_map (lacking_in before at) before.frame.ending.items) → IsPass before → Moves Close before after
     → Keeps old new before after (End at ∷ rest) rest others others
 end-keeps old new before after at rest others b h m =
@@ -240,3 +240,39 @@ end-keeps old new before after at rest others b h m =
     (lacking_in before at)
     (λ i. end-entry i (depth_of before) rest at (get nat_eq before.locals i) (fits-of before h i))
     b (λ bound. lacking-forth bound before at h) (λ bound. each-above bound (lacking_in before at) before.frame.ending.items) m
+
+-- behind an event the same numbers were declared
+still-known : (event : Event) (old new : Pass) (before : List ℕ) → Moves event old new → Knows before old → Knows before new
+still-known event old new before m k = λ i. m.known i ∙ k i
+
+-- a pass behind a statement that declares nothing
+pub choice-steps : (found left : Option ℕ) (old new : Pass) (test : At CAtom) → Blames found left (flat_map (early_in old) (at_view test ∷ []))
+    → IsPass old → Moves Choice old new → Steps found left old new (If test)
+choice-steps found left old new test b h m = record {
+  holds = m.holds;
+  known = λ before k. still-known Choice old new before m k;
+  keeps = λ before rest k. choice-keeps found left old new test rest (settings_flat before rest) b h m;
+}
+
+pub break-steps : (found left : Option ℕ) (old new : Pass) (at : ℕ) (test : At CAtom)
+    → Blames found left (flat_map (early_in old) (at_view test ∷ [])) → IsPass old → Moves Break old new → Steps found left old new (Leave at test)
+break-steps found left old new at test b h m = record {
+  holds = m.holds;
+  known = λ before k. still-known Break old new before m k;
+  keeps = λ before rest k. break-keeps found left old new at test rest (settings_flat before rest) b h m;
+}
+
+pub loop-steps : (found : Option ℕ) (old new : Pass) → IsPass old → Moves Loop old new → Steps found found old new For
+loop-steps found old new h m = record {
+  holds = m.holds;
+  known = λ before k. still-known Loop old new before m k;
+  keeps = λ before rest k. loop-keeps found old new rest (settings_flat before rest) h m;
+}
+
+pub end-steps : (found left : Option ℕ) (old new : Pass) (at : ℕ) → Blames found left (flat_map (lacking_in old at) old.frame.ending.items)
+    → IsPass old → Moves Close old new → Steps found left old new (End at)
+end-steps found left old new at b h m = record {
+  holds = m.holds;
+  known = λ before k. still-known Close old new before m k;
+  keeps = λ before rest k. end-keeps found left old new at rest (settings_flat before rest) b h m;
+}

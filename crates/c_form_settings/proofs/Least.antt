@@ -1,9 +1,10 @@
--- The least of lists that are put together in one order or another.
-use Rattle.std.proofs.Common.{◌≡◌, ℕ, List, ◌++◌, refl, ap, sym, ◌∙◌, append_assoc, arith}
+-- The least of lists that are put together in one order or another, and of the elements of a list.
+use Rattle.std.proofs.Common.{◌≡◌, ◌<◌, ◌+◌, ℕ, List, ◌∷◌, ◌++◌, length, get_or, drop, drop-cons, refl, ap, sym, ◌∙◌, append_assoc, add-one, arith}
 use Rattle.std.specs.Prelude.{Option, Some, None}
+use Rattle.std.specs.List.{flat_map}
 use Rattle.c_tree.specs.Form.{least_of}
-use Rattle.c_form.specs.Blames.{lesser}
-use Rattle.c_form.proofs.Blaming.{least_append, lesser-assoc, lesser-none}
+use Rattle.c_form.specs.Blames.{Blames, lesser}
+use Rattle.c_form.proofs.Blaming.{◌▸◌, least_append, lesser-assoc, lesser-none}
 
 pub lesser-swap : (a b : Option ℕ) → lesser a b ≡ lesser b a
 lesser-swap None b = sym (lesser-none b)
@@ -69,3 +70,10 @@ least-joined h dx dy dr rx ry sx sy e f =
     least-both ((h ++ dx) ++ dy) dr ((((h ++ rx) ++ ry) ++ sx) ++ sy) dr
     (least-arms h dx dy rx ry sx sy e f ∙ ap least_of (ap (λ l. l ++ (sx ++ sy)) (sym (append_assoc h rx ry)) ∙ sym (append_assoc ((h ++ rx) ++ ry) sx sy)))
     refl
+
+-- an element at a place, and those behind it
+pub blames-here : {T : Type 0} (part : T → List ℕ) (old mid new : Option ℕ) (elements : List T) (k : ℕ) (d : T) → k < length elements
+    → Blames old mid (part (get_or elements k d)) → Blames mid new (flat_map part (drop (k + 1) elements)) → Blames old new (flat_map part (drop k elements))
+blames-here part old mid new elements k d h a b =
+    let front : drop k elements ≡ get_or elements k d ∷ drop (k + 1) elements = rw add-one (drop-cons elements k d h) in
+    rw front (a ▸ b)

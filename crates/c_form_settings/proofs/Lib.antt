@@ -2,7 +2,6 @@ pub mod Least
 pub mod Uses
 pub mod Due
 pub mod Flat
-pub mod Following
 pub mod Stacks
 pub mod Changes
 pub mod Telling
@@ -12,4 +11,3 @@ pub mod Bounding
 pub mod Keeping
 pub mod Using
 pub mod Declaring
-pub mod Again

@@ -1,6 +1,7 @@
 -- What a pass knows behind an event.
 use Rattle.std.proofs.Common.{◌≡◌, ◌+◌, ◌-◌, ℕ, suc, List, [], ◌∷◌, ◌++◌, length, length-append, refl, ap, sym, ◌∙◌, inl, inr, arith, subst}
 use Rattle.std.specs.Prelude.{◌⊎◌, nat_eq, Option, Some, None}
+use Rattle.std.specs.Option.{is_some}
 use Rattle.indexmap.specs.IndexMap.{get}
 use Rattle.c_form.specs.OpenBlocks.{innermost_first}
 use Rattle.c_form.proofs.Open.{innermost-push}
@@ -118,6 +119,10 @@ close-stacks i [] old entry h =
     unfit 1 (next_at Close 1 entry) fits ∙ sym (unfit 0 (next_at Close 1 entry) fits)
 close-stacks i (around ∷ outer) old entry h = refl
 
+pub next-known : (event : Event) (depth : ℕ) (entry : Option Local) → is_some (next_at event depth entry) ≡ is_some entry
+next-known event depth None = refl
+next-known event depth (Some l) = refl
+
 -- a pass whose numbers are told of an event
 moved : (event : Event) (old new : Pass) (frames : List Frame) → blocks new ≡ frames
     → ((i : ℕ) → get nat_eq new.locals i ≡ next_at event (length (blocks old)) (get nat_eq old.locals i))
@@ -130,6 +135,7 @@ moved event old new frames now entries holds stacks = record {
   stacks = λ i.
       ap (λ n. stack_at n (get nat_eq new.locals i)) (depth-blocks new ∙ ap length now) ∙ ap (stack_at (length frames)) (entries i) ∙ stacks i
       ∙ ap (λ d. stack_at (open_after event d) (next_at event d (get nat_eq old.locals i))) (sym (depth-blocks old));
+  known = λ i. ap is_some (entries i) ∙ next-known event (length (blocks old)) (get nat_eq old.locals i);
 }
 
 pub choice-moves : (old mid new : Pass) (cleared first second : Frame) → blocks new ≡ first ∷ blocks mid

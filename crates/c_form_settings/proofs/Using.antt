@@ -2,6 +2,7 @@
 use Rattle.std.proofs.Common.{◌≡◌, ◌≤◌, ◌-◌, ℕ, suc, List, [], ◌∷◌, ◌++◌, length, refl, ap, sym, ◌∙◌, arith, subst}
 use Rattle.std.specs.Prelude.{Bool, true, false, not, if◌then◌else◌, ◌==◌, ◌≢◌, nat_eq, Option, Some, None}
 use Rattle.std.specs.List.{flat_map}
+use Rattle.std.specs.Option.{is_some}
 use Rattle.std.proofs.lemmas.Bool.{eqb-true, eqb-false}
 use Rattle.indexmap.specs.IndexMap.{get}
 use Rattle.c_tree.specs.Raw as raw
@@ -22,20 +23,20 @@ use Rattle.c_form_settings.specs.declared.state.Local.{Local}
 use Rattle.c_form_settings.specs.declared.state.State.{State}
 use Rattle.c_form_settings.specs.declared.state.State.TheVariants.{Settled, AwaitsChoice, FirstArm, FirstArmSet, SecondArm, SecondArmSet, AwaitsLoop, BeforeBreak, BehindBreak, Gone}
 use Rattle.c_form_settings.specs.Duties.{behind_setting, behind_sets, reads_under, wants_setting}
-use Rattle.c_form_settings.specs.Passes.{AllAbove, Fits, Holds, IsPass, Keeps, blocks, depth_of, due_at, early_in, is_live, next_at, numbers_in, stack_at, told, wrong_in}
+use Rattle.c_form_settings.specs.Passes.{AllAbove, Fits, Holds, IsPass, Keeps, Uses, blocks, depth_of, due_at, early_in, is_live, next_at, numbers_in, stack_at, told, wrong_in}
 use Rattle.c_form_settings.specs.States.{core, size, inmost, further, is_early, is_gone, inside, here, duties, due_here, becomes}
 use Rattle.c_form_settings.specs.Walks.{due_flat}
 use Rattle.c_form_settings.proofs.Bounding.{both-above, first-above, second-above, where-back, where-forth}
 use Rattle.c_form_settings.proofs.Covering.{fits-next, kept-all}
 use Rattle.c_form_settings.proofs.Due.{none-wanted}
 use Rattle.c_form_settings.proofs.Keeping.{early-back, early-forth, fits-of, gone-next, step-keeps}
-use Rattle.c_form_settings.proofs.Moving.{depth-blocks}
+use Rattle.c_form_settings.proofs.Moving.{depth-blocks, next-known}
 
 -- what is due in the innermost block and around it, and the same behind a setting
-pub record HeadedBy (dues : List Duty) (due : Duty) (behind : List Duty) : Type 0 where
-  pub outer : List Duty
-  pub now : dues ≡ due ∷ outer
-  pub set : behind_setting due ∷ outer ≡ behind
+record HeadedBy (dues : List Duty) (due : Duty) (behind : List Duty) : Type 0 where
+  outer : List Duty
+  now : dues ≡ due ∷ outer
+  set : behind_setting due ∷ outer ≡ behind
 
 near : (state : State) → is_gone state ≡ false → HeadedBy (duties (size state) state) (inmost state) (duties (size state) (becomes Set state))
 near Settled e = record { outer = []; now = refl; set = refl }
@@ -65,7 +66,7 @@ far opened m state live e =
       set = ap (λ d. d ∷ inside m (further state) (core state)) (calm-setting (is_early state)) ∙ sym open_now;
     }
 
-pub headed : (opened : ℕ) (state : State) → is_gone state ≡ false → size state ≤ opened
+headed : (opened : ℕ) (state : State) → is_gone state ≡ false → size state ≤ opened
     → HeadedBy (duties opened state) (due_here opened state) (duties opened (if here opened state then becomes Set state else state))
 headed opened state live fits = by_test (here opened state) refl
   where
@@ -214,7 +215,7 @@ entries-set : (before after : Pass) (s : RawSimple)
     → (i : ℕ) → get nat_eq after.locals i ≡ set_at (sets i (simple_view s)) (depth_of before) (get nat_eq before.locals i)
 entries-set before after s tells i = tells i ∙ told-set i (depth_of before) (simple_view s) (get nat_eq before.locals i)
 
-pub uses-holds : (before after : Pass) (s : RawSimple) → blocks after ≡ blocks before
+uses-holds : (before after : Pass) (s : RawSimple) → blocks after ≡ blocks before
     → ((i : ℕ) → get nat_eq after.locals i ≡ told Set (depth_of before) i (numbers_in (assigned (simple_view s))) (get nat_eq before.locals i))
     → IsPass before → IsPass after
 uses-holds before after s same tells h = λ i.
@@ -223,7 +224,11 @@ uses-holds before after s same tells h = λ i.
     subst (λ fs. Holds i fs (get nat_eq after.locals i)) (sym same)
     (subst (Holds i (blocks before)) (sym entry) (set-holds i (sets i (simple_view s)) (blocks before) (get nat_eq before.locals i) (h i)))
 
-pub uses-keeps : (old mid new : Option ℕ) (before after : Pass) (s : RawSimple) (rest : List RawStatement) (others : List ℕ)
+set-known : (tokens : List ℕ) (depth : ℕ) (entry : Option Local) → is_some (set_at tokens depth entry) ≡ is_some entry
+set-known [] depth entry = refl
+set-known (token ∷ tokens) depth entry = next-known Set depth entry
+
+uses-keeps : (old mid new : Option ℕ) (before after : Pass) (s : RawSimple) (rest : List RawStatement) (others : List ℕ)
     → Blames old mid (flat_map (early_in before) (atoms_of_simple (simple_view s))) → Blames mid new (wrong_in before (assigned (simple_view s)))
     → blocks after ≡ blocks before
     → ((i : ℕ) → get nat_eq after.locals i ≡ told Set (depth_of before) i (numbers_in (assigned (simple_view s))) (get nat_eq before.locals i))
@@ -270,3 +275,16 @@ uses-keeps old mid new before after s rest others reading setting same tells h =
         both-above bound early amiss
         (early-back bound before (atoms_of_simple (simple_view s)) (λ i. first-above bound (reading_part i) (setting_part i) (a i)))
         (where-back bound test (assigned (simple_view s)) (λ i. second-above bound (reading_part i) (setting_part i) (a i)))
+
+pub uses-is : (old mid new : Option ℕ) (before after : Pass) (s : RawSimple)
+    → Blames old mid (flat_map (early_in before) (atoms_of_simple (simple_view s))) → Blames mid new (wrong_in before (assigned (simple_view s)))
+    → blocks after ≡ blocks before
+    → ((i : ℕ) → get nat_eq after.locals i ≡ told Set (depth_of before) i (numbers_in (assigned (simple_view s))) (get nat_eq before.locals i))
+    → IsPass before → Uses old new before after s
+uses-is old mid new before after s reading setting same tells h = record {
+  holds = uses-holds before after s same tells h;
+  known = λ numbers k i.
+      ap is_some (entries-set before after s tells i)
+      ∙ set-known (sets i (simple_view s)) (depth_of before) (get nat_eq before.locals i) ∙ k i;
+  keeps = λ rest others. uses-keeps old mid new before after s rest others reading setting same tells h;
+}

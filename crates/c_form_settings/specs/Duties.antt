@@ -7,16 +7,6 @@ use Rattle.c_tree.specs.rules.Settings.{first_counts, reads, sets}
 use Rattle.c_form_settings.specs.declared.duty.Duty.{Duty}
 use Rattle.c_form_settings.specs.declared.duty.Duty.TheVariants.{Unset, Untouched, Arm, Turn, Behind, Join, Head}
 
--- all that is due is that it isn't set
-abbrev pub is_unset : Duty → Bool
-is_unset Unset = true
-is_unset Untouched = false
-is_unset Arm = false
-is_unset Turn = false
-is_unset Behind = false
-is_unset Join = false
-is_unset Head = false
-
 -- a local that isn't read
 abbrev pub is_unread : Duty → Bool
 is_unread Unset = false

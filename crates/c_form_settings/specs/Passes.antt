@@ -1,10 +1,13 @@
 -- What one pass over the statements of a body knows of the locals that are declared before, and what is still to be blamed of them.
 use Rattle.std.specs.Prelude.{◌≡◌, ◌≤◌, ◌<◌, ◌+◌, ◌-◌, ◌⊎◌, ◌==◌, ℕ, suc, nat_eq, if◌then◌else◌, Bool, not, false, List, [], ◌∷◌, ◌++◌, length, Option, Some, None}
+use Rattle.std.specs.Option.{is_some}
 use Rattle.indexmap.specs.IndexMap.{get}
 use Rattle.c_tree.specs.declared.body.CAtom.{CAtom}
 use Rattle.c_tree.specs.Raw.{At}
 use Rattle.c_tree.specs.rules.Bodies.{local_of}
+use Rattle.c_raw.specs.declared.body.RawSimple.{RawSimple}
 use Rattle.c_raw.specs.declared.body.RawStatement.{RawStatement}
+use Rattle.c_raw.specs.declared.body.RawStatement.TheVariants.{Simple}
 use Rattle.c_form.specs.OpenBlocks.{innermost_first}
 use Rattle.c_form_settings.specs.declared.duty.Duty.{Duty}
 use Rattle.c_form_settings.specs.declared.duty.Duty.TheVariants.{Unset}
@@ -17,7 +20,7 @@ use Rattle.c_form_settings.specs.declared.state.State.{State}
 use Rattle.c_form_settings.specs.declared.state.State.TheVariants.{Settled, AwaitsChoice, FirstArm, FirstArmSet, SecondArm, SecondArmSet, AwaitsLoop, BeforeBreak, BehindBreak, Gone}
 use Rattle.c_form_settings.specs.Duties.{end_under, is_unread, wants_setting}
 use Rattle.c_form_settings.specs.States.{size, is_gone, duties, due_here, next, open_after}
-use Rattle.c_form_settings.specs.Walks.{due_flat}
+use Rattle.c_form_settings.specs.Walks.{due_flat, start_of, is_among, first_flat, with_start, declared_behind, settings_flat}
 
 -- what is due of a number, with its declared local, where so many blocks are open: in each of them, and in the innermost one
 abbrev pub stack_at : ℕ → Option Local → List Duty
@@ -32,6 +35,10 @@ due_at depth (Some l) = due_here (depth - l.base) l.state
 abbrev pub is_live : Option Local → Bool
 is_live None = false
 is_live (Some l) = not (is_gone l.state)
+
+-- the numbers that were declared are these
+abbrev pub Knows : List ℕ → Pass → Type 0
+Knows before pass = (i : ℕ) → is_some (get nat_eq pass.locals i) ≡ is_among before i
 
 -- the same number behind an event in the innermost block
 abbrev pub next_at : Event → ℕ → Option Local → Option Local
@@ -112,6 +119,7 @@ pub record Moves (event : Event) (old new : Pass) : Type 0 where
   pub holds : IsPass new
   pub stacks : (i : ℕ) → stack_at (depth_of new) (get nat_eq new.locals i)
       ≡ stack_at (open_after event (depth_of old)) (next_at event (depth_of old) (get nat_eq old.locals i))
+  pub known : (i : ℕ) → is_some (get nat_eq new.locals i) ≡ is_some (get nat_eq old.locals i)
 
 -- tokens that are not below a bound
 abbrev pub Above : ℕ → Option ℕ → Type 0
@@ -132,6 +140,26 @@ pub record Bounds (bound : ℕ) (found : Option ℕ) (pass : Pass) (rest : List 
 pub record Keeps (old new : Option ℕ) (before after : Pass) (list rest : List RawStatement) (first more : List ℕ) : Type 0 where
   pub forth : (bound : ℕ) → Bounds bound old before list first → Bounds bound new after rest more
   pub back : (bound : ℕ) → Bounds bound new after rest more → Bounds bound old before list first
+
+-- a pass behind what a statement without blocks reads and sets
+pub record Uses (found left : Option ℕ) (old new : Pass) (s : RawSimple) : Type 0 where
+  pub holds : IsPass new
+  pub known : (before : List ℕ) → Knows before old → Knows before new
+  pub keeps : (rest : List RawStatement) (others : List ℕ) → Keeps found left old new (Simple s ∷ rest) rest others others
+
+-- a pass behind what it declares
+pub record Adds (old new : Pass) (s : RawSimple) : Type 0 where
+  pub holds : IsPass new
+  pub known : (before : List ℕ) → Knows before old → Knows (with_start before (start_of s)) new
+  pub keeps : (before : List ℕ) (found : Option ℕ) (rest : List RawStatement) (others : List ℕ) → Knows before old
+      → Keeps found found old new rest rest (first_flat before (start_of s) rest ++ others) others
+
+-- a pass behind a statement
+pub record Steps (found left : Option ℕ) (old new : Pass) (s : RawStatement) : Type 0 where
+  pub holds : IsPass new
+  pub known : (before : List ℕ) → Knows before old → Knows (declared_behind before s) new
+  pub keeps : (before : List ℕ) (rest : List RawStatement) → Knows before old
+      → Keeps found left old new (s ∷ rest) rest (settings_flat before (s ∷ rest)) (settings_flat (declared_behind before s) rest)
 
 -- the tokens at which an atom reads a local too early
 abbrev pub tokens_where : (ℕ → Bool) → List (At ℕ) → List ℕ

@@ -21,13 +21,6 @@ pub enum Duty {
     Head,
 }
 
-/// All that is due is that it isn't set.
-pub fn is_unset(duty: Duty) -> bool
-    ensures { result ≡ duties.is_unset duty }
-{
-    matches!(duty, Duty::Unset)
-}
-
 /// It is not to be read.
 pub fn is_unread(duty: Duty) -> bool
     ensures { result ≡ duties.is_unread duty }
@@ -47,67 +40,4 @@ pub fn lacks_setting(duty: Duty) -> bool
     ensures { result ≡ duties.lacks_setting duty }
 {
     !matches!(duty, Duty::Unset | Duty::Untouched)
-}
-
-/// What is due behind a setting.
-pub fn behind_setting(duty: Duty) -> Duty
-    ensures { result ≡ duties.behind_setting duty }
-{
-    match duty {
-        Duty::Arm => Duty::Untouched,
-        Duty::Behind => Duty::Unset,
-        _ => duty,
-    }
-}
-
-/// What is due behind a `break`.
-pub fn behind_break(duty: Duty) -> Duty
-    ensures { result ≡ duties.behind_break duty }
-{
-    match duty {
-        Duty::Turn => Duty::Behind,
-        _ => duty,
-    }
-}
-
-/// What is due in each arm of an `if`.
-pub fn in_arm(duty: Duty) -> Duty
-    ensures { result ≡ duties.in_arm duty }
-{
-    match duty {
-        Duty::Join => Duty::Arm,
-        Duty::Untouched | Duty::Arm => Duty::Untouched,
-        _ => Duty::Unset,
-    }
-}
-
-/// What is due behind an `if`.
-pub fn behind_if(duty: Duty) -> Duty
-    ensures { result ≡ duties.behind_if duty }
-{
-    match duty {
-        Duty::Join => Duty::Unset,
-        _ => duty,
-    }
-}
-
-/// What is due in the block of a `for`.
-pub fn in_loop(duty: Duty) -> Duty
-    ensures { result ≡ duties.in_loop duty }
-{
-    match duty {
-        Duty::Head => Duty::Turn,
-        Duty::Untouched | Duty::Arm | Duty::Join => Duty::Untouched,
-        _ => Duty::Unset,
-    }
-}
-
-/// What is due behind a `for`.
-pub fn behind_loop(duty: Duty) -> Duty
-    ensures { result ≡ duties.behind_loop duty }
-{
-    match duty {
-        Duty::Head => Duty::Unset,
-        _ => duty,
-    }
 }

@@ -1,6 +1,7 @@
 //! The locals that are declared at a place of a body, with how far the settings of each have come, and the open blocks with those
 //! that depend on them.
-ghost use Rattle.std.specs.Prelude.{◌≡◌, ◌++◌, ◌∷◌, ℕ, List, [], None, IfOk, OnOk, map, nat_eq, suc};
+ghost use Rattle.std.specs.Prelude.{◌≡◌, ◌∷◌, ℕ, [], None, IfOk, OnOk, nat_eq, suc};
+ghost use Rattle.std.specs.Option.{is_some};
 ghost use Rattle.std.specs.List.{flat_map};
 ghost use Rattle.indexmap.specs.IndexMap.{get};
 ghost use Rattle.c_form_settings.specs.Passes as passes;
@@ -78,6 +79,13 @@ pub fn duty_of(pass: &Pass, number: u32) -> Duty
         Some(local) => duty_here(local, depth(pass)),
         None => Duty::Unset,
     }
+}
+
+/// It was declared.
+pub fn is_known(pass: &Pass, number: u32) -> bool
+    ensures { result ≡ is_some (get nat_eq pass.now.locals number) }
+{
+    pass.locals.get(&number).is_some()
 }
 
 /// The block of its declaration is open.

@@ -1,5 +1,5 @@
 //! Rule 4 of form, settings: how often locals are set, and where.
-ghost use Rattle.std.specs.Prelude.{◌≡◌, ◌∷◌, IfOk, OnOk, true};
+ghost use Rattle.std.specs.Prelude.{◌≡◌, IfOk, OnOk, true};
 ghost use Rattle.c_tree.specs.Form.{least_of};
 ghost use Rattle.c_tree.specs.rules.Bodies as bodies;
 ghost use Rattle.c_tree.specs.rules.Settings.{set_as_declared, settings_in};
@@ -7,8 +7,7 @@ ghost use Rattle.c_raw.specs.Blocks.{block_view, is_body};
 ghost use Rattle.c_raw.specs.Views.{file_view, has_bodies};
 ghost use Rattle.c_form.specs.Blames.{Blames};
 ghost use Rattle.c_form.specs.Bodies.{body_view, is_one_block};
-ghost use Rattle.c_form_settings.specs.Passes.{IsPass, Keeps};
-ghost use Rattle.c_form_settings.specs.Walks.{settings_flat};
+ghost use Rattle.c_form_settings.specs.Passes.{IsPass, Steps};
 
 use crate::pass::{Pass, close, leave, no_locals, open_choice, open_loop};
 use crate::simple::{read, simple};
@@ -24,13 +23,11 @@ fn step(
     pass: &mut Pass,
     least: &mut Option<usize>,
     statement: &RawStatement,
-    rest: &[RawStatement],
 ) -> Result<(), NoMemory>
-    ensures { OnOk result (IsPass pass.old → IsPass pass.new × Keeps least.old least.new pass.old pass.new
-        (statement.now ∷ rest.now) rest.now (settings_flat (statement.now ∷ rest.now)) (settings_flat rest.now)) }
+    ensures { OnOk result (IsPass pass.old → Steps least.old least.new pass.old pass.new statement.now) }
 {
     match statement {
-        RawStatement::Simple(inner) => simple(alloc, pass, least, inner, rest)?,
+        RawStatement::Simple(inner) => simple(alloc, pass, least, inner)?,
         RawStatement::Leave { test, .. } => {
             read(pass, least, *test);
             leave(alloc, pass)?;
@@ -50,8 +47,8 @@ fn block(alloc: Global, least: &mut Option<usize>, list: &[RawStatement]) -> Res
     ensures { OnOk result (Blames least.old least.new (settings_in (block_view list.now))) }
 {
     let mut pass = no_locals(alloc);
-    for (index, statement) in list.iter().enumerate() {
-        step(alloc, &mut pass, least, statement, &list[index + 1..])?;
+    for statement in list {
+        step(alloc, &mut pass, least, statement)?;
     }
     Ok(())
 }
@@ -86,7 +83,8 @@ impl BodyRule for Settings {
 /// A constant is never set again. A local that is declared without a value is set once in the direct block of each arm of the
 /// next `if` with two arms of its block, and read only behind that `if`. One that is declared with a value and isn't constant is
 /// set once in the direct block of the next `for` of its block, behind the `break`. Where that `if` or `for` is missing, the
-/// closing brace of the block of the declaration is blamed.
+/// closing brace of the block of the declaration is blamed. Of a number that is declared more than once in a body the first
+/// declaration counts.
 pub fn settings_fault(alloc: Global, raw: &RawFile) -> Result<Option<usize>, NoMemory>
     requires { has_bodies raw.now ≡ true }
     ensures { IfOk result (λ least. least ≡ least_of (set_as_declared (file_view raw.now))) }

@@ -1,24 +1,21 @@
 //! What a statement without blocks does at a place of a body: it reads locals, sets one, or declares one.
-ghost use Rattle.std.specs.Prelude.{◌≡◌, ◌∷◌, ◌++◌, ℕ, List, [], OnOk, Some, map, nat_eq, true};
+ghost use Rattle.std.specs.Prelude.{◌≡◌, ◌∷◌, ℕ, [], OnOk, map, nat_eq};
 ghost use Rattle.std.specs.List.{flat_map};
 ghost use Rattle.indexmap.specs.IndexMap.{get};
 ghost use Rattle.c_tree.specs.rules.Bodies.{assigned, atoms_of_simple};
 ghost use Rattle.c_raw.specs.Blocks.{at_view, simple_view};
-ghost use Rattle.c_raw.specs.declared.body.RawStatement.{RawStatement as SpecStatement};
 ghost use Rattle.c_raw.specs.declared.body.RawStatement.TheVariants.{Simple};
 ghost use Rattle.c_form.specs.Blames.{Blames};
 ghost use Rattle.c_form_settings.specs.Passes as passes;
-ghost use Rattle.c_form_settings.specs.Starts.{start_flat};
-ghost use Rattle.c_form_settings.specs.Walks.{declaration_flat};
 ghost use Rattle.c_form_settings.specs.declared.state.Event.TheVariants as event;
 
-use crate::duty::{is_unread, is_unset, wants_setting};
-use crate::follow::{Start, declared, follow};
-use crate::pass::{Pass, declare, depth, duty_of, is_live, tell};
-use crate::state::{Event, is_due};
+use crate::duty::{is_unread, wants_setting};
+use crate::pass::{Pass, declare, depth, duty_of, is_known, is_live, tell};
+use crate::start::declared;
+use crate::state::Event;
 use c_form::atoms::simple_atoms;
 use c_form::blame::blame_unless;
-use c_raw::{At, RawSimple, RawStatement};
+use c_raw::{At, RawSimple};
 use c_tree::CAtom;
 use std::alloc::Global;
 use va_base::NoMemory;
@@ -95,53 +92,24 @@ fn uses(
     least: &mut Option<usize>,
     statement: &RawSimple,
 ) -> Result<(), NoMemory>
-    ensures { OnOk result (passes.IsPass pass.old → passes.IsPass pass.new
-        × ((rest : List SpecStatement) (others : List ℕ)
-        → passes.Keeps least.old least.new pass.old pass.new (Simple statement.now ∷ rest) rest others others)) }
+    ensures { OnOk result (passes.IsPass pass.old → passes.Uses least.old least.new pass.old pass.new statement.now) }
 {
     reads(alloc, pass, least, statement)?;
     sets(pass, least, statement)?;
     Ok(())
 }
 
-/// What a declaration adds whose number has its local in an open block already, which breaks another rule. Such a second local is
-/// followed at once, as far as something else is due of it.
-fn declares_again(
-    alloc: Global,
-    pass: &Pass,
-    least: &mut Option<usize>,
-    start: Start,
-    rest: &[RawStatement],
-) -> Result<(), NoMemory>
-    ensures { OnOk result (passes.IsPass pass.now → passes.is_live (get nat_eq pass.now.locals start.number) ≡ true → (others : List ℕ)
-        → passes.Keeps least.old least.new pass.now pass.now rest.now rest.now (start_flat (Some start) rest.now ++ others) others) }
-{
-    let due = duty_of(pass, start.number);
-    if !is_due(due, start.state) {
-        follow(alloc, least, start, rest, is_unset(due))?;
-    }
-    Ok(())
-}
-
-/// What a declaration adds.
-fn declares(
-    alloc: Global,
-    pass: &mut Pass,
-    least: &mut Option<usize>,
-    statement: &RawSimple,
-    rest: &[RawStatement],
-) -> Result<(), NoMemory>
-    ensures { OnOk result (passes.IsPass pass.old → passes.IsPass pass.new × ((others : List ℕ)
-        → passes.Keeps least.old least.new pass.old pass.new rest.now rest.now (declaration_flat statement.now rest.now ++ others) others)) }
+/// What a declaration adds. Of a number that was declared before the first declaration counts.
+fn declares(pass: &mut Pass, statement: &RawSimple) -> Result<(), NoMemory>
+    ensures { OnOk result (passes.IsPass pass.old → passes.Adds pass.old pass.new statement.now) }
 {
     let Some(start) = declared(statement) else {
         return Ok(());
     };
-    if is_live(pass, start.number) {
-        declares_again(alloc, pass, least, start, rest)?;
-    } else {
-        declare(pass, start.number, start.state)?;
+    if is_known(pass, start.number) {
+        return Ok(());
     }
+    declare(pass, start.number, start.state)?;
     Ok(())
 }
 
@@ -151,13 +119,10 @@ pub fn simple(
     pass: &mut Pass,
     least: &mut Option<usize>,
     statement: &RawSimple,
-    rest: &[RawStatement],
 ) -> Result<(), NoMemory>
-    ensures { OnOk result (passes.IsPass pass.old → passes.IsPass pass.new × ((others : List ℕ)
-        → passes.Keeps least.old least.new pass.old pass.new (Simple statement.now ∷ rest.now) rest.now
-        (declaration_flat statement.now rest.now ++ others) others)) }
+    ensures { OnOk result (passes.IsPass pass.old → passes.Steps least.old least.new pass.old pass.new (Simple statement.now)) }
 {
     uses(alloc, pass, least, statement)?;
-    declares(alloc, pass, least, statement, rest)?;
+    declares(pass, statement)?;
     Ok(())
 }

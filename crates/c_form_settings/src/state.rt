@@ -1,5 +1,5 @@
 //! How far the settings of a declared local have come, and what is due of it in the open blocks.
-ghost use Rattle.std.specs.Prelude.{◌≡◌, ◌-◌, true};
+ghost use Rattle.std.specs.Prelude.{◌≡◌, ◌-◌};
 ghost use Rattle.c_form_settings.specs.States as states;
 
 use crate::duty::Duty;
@@ -65,7 +65,7 @@ fn size(state: State) -> usize
 }
 
 /// What is due in the innermost of these blocks.
-pub fn inmost(state: State) -> Duty
+fn inmost(state: State) -> Duty
     ensures { result ≡ states.inmost state }
 {
     match state {
@@ -90,18 +90,6 @@ fn further(state: State) -> Duty
         | State::SecondArm
         | State::SecondArmSet => Duty::Untouched,
         _ => Duty::Unset,
-    }
-}
-
-/// The same is due as of a local in this state in the block of its declaration, where it has just been declared.
-pub fn is_due(duty: Duty, state: State) -> bool
-    ensures { result ≡ true → duty ≡ states.inmost state }
-{
-    match state {
-        State::Settled => matches!(duty, Duty::Unset),
-        State::AwaitsChoice => matches!(duty, Duty::Join),
-        State::AwaitsLoop => matches!(duty, Duty::Head),
-        _ => false,
     }
 }
 

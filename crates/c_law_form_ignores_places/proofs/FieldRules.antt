@@ -16,7 +16,7 @@ use Rattle.c_tree.specs.SameType.{same_type}
 use Rattle.c_tree.specs.Raw.{At, word_at, RawBlock, closed, simple, leave, choice, loop, RawField, RawAccess, RawLoad, RawLoads, RawNode, RawModule, RawFile}
 use Rattle.c_tree.specs.RawOf.{at_0}
 use Rattle.c_tree.specs.rules.Bodies.{Item, Scoped, RawBody, items_of, bodies_of, items_in, atoms_of, cell_of, unknown_of, set_cells, set_flags, of_statement, repeated}
-use Rattle.c_tree.specs.rules.Cells.{words_of_cells, words_of_flags, cells_set_in, flags_set_in, words_set_in, set_deeper, same_cell, set_again, cells_twice, flags_twice, direct, set_twice, of_fields, unknowns_of, flags_of}
+use Rattle.c_tree.specs.rules.Reach.{words_of_cells, words_of_flags, cells_set_in, flags_set_in, words_set_in, set_deeper, same_cell, set_again, cells_twice, flags_twice, direct, set_twice, of_fields, unknowns_of, flags_of}
 use Rattle.c_tree.specs.rules.Fields.{same_field, type_among, instance_type, cell_type, missing, unlike, again, twice, cells_in, body_cells, cell_missing, access_flag, access_cells, factors_of, all_loads, loaded_field, load_cells, node_cells, fields_of_module, fields_exist}
 use Rattle.c_law_form_ignores_places.specs.Forget.{forget_at, forget_simple, forget_block, forget_field, forget_flag, forget_access, forget_load, forget_loads, forget_node, forget_module, forget}
 use Rattle.c_law_form_ignores_places.proofs.Alike.{Alike, both, flat_alike, one_alike, map_map, flat_mapped}

@@ -1,5 +1,5 @@
 -- The rules on numbering, breaks, locals and settings blame as much in a raw tree without places.
-use Rattle.std.specs.Prelude.{◌≡◌, ℕ, suc, ◌==◌, Bool, true, false, List, [], ◌∷◌, ◌++◌, length, map}
+use Rattle.std.specs.Prelude.{◌≡◌, ℕ, suc, ◌==◌, Bool, true, false, if◌then◌else◌, List, [], ◌∷◌, ◌++◌, length, map}
 use Rattle.std.specs.List.{flat_map, list_any, enumerate_from}
 use Rattle.std.proofs.Common.{refl, ap, sym, ◌∙◌, arith}
 use Rattle.std.proofs.lemmas.List.{map-append}
@@ -9,10 +9,10 @@ use Rattle.c_tree.specs.rules.Bodies.{Declared, Item, Scoped, RawBody, items_of,
 use Rattle.c_tree.specs.rules.Breaks.{breaks_in, one_break_a_loop}
 use Rattle.c_tree.specs.rules.Locals.{locals_used, unless_among, used_locals, used_arguments, declared, locals_in_body, locals_declared}
 use Rattle.c_tree.specs.rules.Numbering.{wants, numbered_module, numbered_in_order}
-use Rattle.c_tree.specs.rules.Settings.{sets, sets_in, reads, reads_in, first_counts, still_wanted, set_once, set_in_turn, after_join, after_head, after_declaration, settings_in, set_as_declared}
+use Rattle.c_tree.specs.rules.Settings.{sets, sets_in, reads, reads_in, first_counts, still_wanted, set_once, set_in_turn, after_join, after_head, after_declaration, Declaration, declaration, blamed_behind, declarations, first_of_each, settings_in, set_as_declared}
 use Rattle.c_law_form_ignores_places.specs.Forget.{forget_at, forget_simple, forget_block, forget_argument, forget_function, forget_module, forget_descriptor, forget}
 use Rattle.c_law_form_ignores_places.proofs.Alike.{Alike, both, flat_alike, one_alike, one_alike_else, enumerate_mapped, map_map, flat_mapped}
-use Rattle.c_law_form_ignores_places.proofs.Trees.{forget_item, forget_scoped, forget_body, items_in_same, items_same, atoms_of_same, atoms_of_simple_same, local_of_same, argument_of_same, assigned_same, of_statement_same, tokens_alike, repeated_alike, modules_alike, bodies_alike}
+use Rattle.c_law_form_ignores_places.proofs.Trees.{three_mapped, forget_item, forget_scoped, forget_body, items_in_same, items_same, atoms_of_same, atoms_of_simple_same, local_of_same, argument_of_same, assigned_same, of_statement_same, tokens_alike, repeated_alike, modules_alike, bodies_alike}
 
 pub wants_alike : (k : ℕ) (number : At ℕ) → Alike (wants k number) (wants k (forget_at number))
 wants_alike k number = one_alike (number.value == k) number.at 0
@@ -225,17 +225,54 @@ after_alike (set_cell cell value) rest = refl
 after_alike (set_flag pair value) rest = refl
 after_alike (report id) rest = refl
 
+-- the declarations of a block
+abbrev forget_declaration : Declaration → Declaration
+forget_declaration d = record { local = forget_at d.local; statement = forget_simple d.statement; rest = forget_block d.rest }
+
+statement_declarations_same : (s : RawSimple) (rest : RawBlock) (locals : List (At ℕ))
+    → map (declaration (forget_simple s) (forget_block rest)) (map forget_at locals) ≡ map forget_declaration (map (declaration s rest) locals)
+statement_declarations_same s rest [] = refl
+statement_declarations_same s rest (x ∷ locals) =
+    ap (λ l. forget_declaration (declaration s rest x) ∷ l) (statement_declarations_same s rest locals)
+
+declarations_same : (b : RawBlock) → declarations (forget_block b) ≡ map forget_declaration (declarations b)
+declarations_same (closed at) = refl
+declarations_same (simple s rest) =
+    let p = statement_declarations_same s rest (declared s) in
+    let q = declarations_same rest in
+    ap (λ l. map (declaration (forget_simple s) (forget_block rest)) l ++ declarations (forget_block rest)) (declared_same s)
+    ∙ (λ i. p i ++ q i)
+    ∙ sym (map-append forget_declaration (map (declaration s rest) (declared s)) (declarations rest))
+declarations_same (leave at a rest) = declarations_same rest
+declarations_same (choice a x y rest) =
+    let p = declarations_same x in
+    let q = declarations_same y in
+    let r = declarations_same rest in
+    (λ i. p i ++ q i ++ r i) ∙ sym (three_mapped forget_declaration (declarations x) (declarations y) (declarations rest))
+declarations_same (loop x rest) =
+    let p = declarations_same x in
+    let q = declarations_same rest in
+    (λ i. p i ++ q i) ∙ sym (map-append forget_declaration (declarations x) (declarations rest))
+
+first_same : (before : List ℕ) (ds : List Declaration)
+    → first_of_each before (map forget_declaration ds) ≡ map forget_declaration (first_of_each before ds)
+first_same before [] = refl
+first_same before (d ∷ ds) =
+    by_test (list_any (λ number. number == d.local.value) before) (first_same before ds) (first_same (d.local.value ∷ before) ds)
+  where
+    by_test : (test : Bool) → first_of_each before (map forget_declaration ds) ≡ map forget_declaration (first_of_each before ds)
+        → first_of_each (d.local.value ∷ before) (map forget_declaration ds) ≡ map forget_declaration (first_of_each (d.local.value ∷ before) ds)
+        → (if test then first_of_each before (map forget_declaration ds)
+        else forget_declaration d ∷ first_of_each (d.local.value ∷ before) (map forget_declaration ds))
+        ≡ map forget_declaration (if test then first_of_each before ds else d ∷ first_of_each (d.local.value ∷ before) ds)
+    by_test true p q = p
+    by_test false p q = ap (λ l. forget_declaration d ∷ l) q
+
 settings_alike : (b : RawBlock) → Alike (settings_in b) (settings_in (forget_block b))
-settings_alike (closed at) = refl
-settings_alike (simple s rest) =
-    both (after_declaration s rest) (after_declaration (forget_simple s) (forget_block rest)) (settings_in rest) (settings_in (forget_block rest))
-    (after_alike s rest) (settings_alike rest)
-settings_alike (leave at a rest) = settings_alike rest
-settings_alike (choice a x y rest) =
-    all_three (settings_in x) (settings_in y) (settings_in rest) (settings_in (forget_block x)) (settings_in (forget_block y))
-    (settings_in (forget_block rest)) (settings_alike x) (settings_alike y) (settings_alike rest)
-settings_alike (loop x rest) =
-    both (settings_in x) (settings_in (forget_block x)) (settings_in rest) (settings_in (forget_block rest)) (settings_alike x) (settings_alike rest)
+settings_alike b =
+    flat_alike blamed_behind blamed_behind forget_declaration (λ d. after_alike (Declaration.statement d) (Declaration.rest d))
+    (first_of_each [] (declarations b))
+    ∙ ap (λ l. length (flat_map blamed_behind l)) (sym (ap (first_of_each []) (declarations_same b) ∙ first_same [] (declarations b)))
 
 pub setting_rule_alike : (raw : RawFile) → Alike (set_as_declared raw) (set_as_declared (forget raw))
 setting_rule_alike raw = bodies_alike (λ m b. settings_in b.block) (λ m b. settings_alike b.block) raw

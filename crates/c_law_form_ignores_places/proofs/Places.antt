@@ -3,7 +3,7 @@ use Rattle.std.specs.Prelude.{◌++◌}
 use Rattle.c_tree.specs.Form.{blamed}
 use Rattle.c_tree.specs.Raw.{RawFile}
 use Rattle.c_tree.specs.rules.Breaks.{one_break_a_loop}
-use Rattle.c_tree.specs.rules.Cells.{cells_in_reach}
+use Rattle.c_tree.specs.rules.Reach.{cells_in_reach}
 use Rattle.c_tree.specs.rules.Fields.{fields_exist}
 use Rattle.c_tree.specs.rules.Locals.{locals_declared}
 use Rattle.c_tree.specs.rules.Numbering.{numbered_in_order}

@@ -18,7 +18,7 @@ use Rattle.c_tree.specs.Raw.{At, word_at, RawSimple, constant, join, head, assig
 use Rattle.c_tree.specs.RawOf.{at_0}
 use Rattle.c_tree.specs.Text.{load_functions}
 use Rattle.c_tree.specs.rules.Bodies.{Item, Scoped, BodyKind, a_function, setup_of_model, setup_of_instance, evaluation, RawBody, items_of, items_in, set_cells, of_statement, in_modules, in_bodies}
-use Rattle.c_tree.specs.rules.Cells.{words_of_cells, words_of_flags, cells_set_in, set_deeper, set_twice, of_fields, is_temperature, is_set_up, of_instance, unknowns_of, solution_tokens, solution_instances, report_tokens, reports_of, flags_of, out_of_reach, cells_of_body, has_dst, has_alpha, has_solution, target_reached, double_or_missing, factor_reached, load_reached, raw_loads, loads_reached, cells_in_reach}
+use Rattle.c_tree.specs.rules.Reach.{words_of_cells, words_of_flags, cells_set_in, set_deeper, set_twice, of_fields, is_temperature, is_set_up, of_instance, unknowns_of, solution_tokens, solution_instances, report_tokens, reports_of, flags_of, out_of_reach, cells_of_body, has_dst, has_alpha, has_solution, target_reached, double_or_missing, factor_reached, load_reached, raw_loads, loads_reached, cells_in_reach}
 use Rattle.c_tree.specs.rules.Fields.{instance_type, cells_in, factors_of}
 use Rattle.c_law_form_ignores_places.specs.Forget.{forget_at, forget_simple, forget_load, forget_loads, forget_module, forget}
 use Rattle.c_law_form_ignores_places.proofs.Alike.{Alike, both, flat_alike, one_alike, flat_mapped}

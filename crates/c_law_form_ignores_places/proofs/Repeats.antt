@@ -7,7 +7,7 @@ use Rattle.c_tree.specs.Form.{HasForm}
 use Rattle.c_tree.specs.Raw.{At, RawFunction, RawModule, RawDescriptor, RawFile}
 use Rattle.c_tree.specs.rules.Bodies.{Scoped, RawBody, bodies_of, items_of, in_modules, in_bodies}
 use Rattle.c_tree.specs.rules.Breaks.{breaks_in, one_break_a_loop}
-use Rattle.c_tree.specs.rules.Cells.{cells_of_body, loads_reached, cells_in_reach}
+use Rattle.c_tree.specs.rules.Reach.{cells_of_body, loads_reached, cells_in_reach}
 use Rattle.c_tree.specs.rules.Fields.{fields_of_module, fields_exist}
 use Rattle.c_tree.specs.rules.Locals.{locals_in_body, locals_declared}
 use Rattle.c_tree.specs.rules.Numbering.{wants, numbered_module, numbered_in_order}

@@ -14,7 +14,7 @@ use Rattle.c_tree.specs.RawOf.{at_0}
 use Rattle.c_tree.specs.Text.{is_instance_kind, is_parameter_kind, is_opvar_kind}
 use Rattle.c_tree.specs.Words.{array_length}
 use Rattle.c_tree.specs.rules.Bodies.{Item, Scoped, RawBody, bodies_of, items_of, of_statement, in_modules}
-use Rattle.c_tree.specs.rules.Cells.{unknowns_of, flags_of}
+use Rattle.c_tree.specs.rules.Reach.{unknowns_of, flags_of}
 use Rattle.c_tree.specs.rules.Fields.{same_field, all_loads, factors_of}
 use Rattle.c_tree.specs.rules.Numbering.{wants}
 use Rattle.c_tree.specs.rules.Tables.{below, reported_id, item_numbers, body_numbers, target_number, factor_number, load_numbers, sizes_agree, wants_field, node_fields, second_below, pair_numbers, no_reference, offset_agrees, entry_numbers, aliases_agree, rank, kinds_in_order, numbers_of_module, count_params, descriptor_numbers, descriptors_agree, counts_agree, tables_agree}

@@ -27,7 +27,7 @@ forget_body b = record {
   last = map forget_item b.last;
 }
 
-three_mapped : {S T : Type 0} (f : S → T) (a b c : List S) → map f (a ++ b ++ c) ≡ map f a ++ map f b ++ map f c
+pub three_mapped : {S T : Type 0} (f : S → T) (a b c : List S) → map f (a ++ b ++ c) ≡ map f a ++ map f b ++ map f c
 three_mapped f a b c = map-append f (a ++ b) c ∙ ap (λ l. l ++ map f c) (map-append f a b)
 
 pub declares_same : (s : RawSimple) → declares (forget_simple s) ≡ declares s

@@ -23,13 +23,14 @@ use Rattle.c_machine.specs.Runs.{run_body}
 use Rattle.c_tree.specs.Spelling.{EachHas}
 use Rattle.c_tree.specs.rules.Bodies.{Declared, of_value, Scoped, scoped, locals_of, a_function, RawBody, function_body, items_of, items_in, of_statement, repeated}
 use Rattle.c_tree.specs.rules.Breaks.{breaks_in}
-use Rattle.c_tree.specs.rules.Cells.{out_of_reach}
+use Rattle.c_tree.specs.rules.Reach.{out_of_reach}
 use Rattle.c_tree.specs.rules.Fields.{cell_missing, cells_in, body_cells}
 use Rattle.c_tree.specs.rules.Locals.{used_locals, used_arguments, declared, locals_in_body}
 use Rattle.c_tree.specs.rules.Settings.{settings_in}
 use Rattle.c_tree.specs.rules.Tables.{item_numbers}
 use Rattle.c_tree.specs.rules.Types.{type_of_local, type_of_argument, function_before, item_differs, item_calls}
 use Rattle.c_tree.proofs.Blameless.{no_parts, flat_none, each_split, each_both, each_weaker, turned_true, turned_test, same_test}
+use Rattle.c_machine.proofs.Declarations.{all_kept}
 use Rattle.c_machine.proofs.Endings.{then_gives, value_given}
 use Rattle.c_machine.proofs.Keeping.{typed_gives}
 use Rattle.c_tree.proofs.Nesting.{block-flat}
@@ -99,7 +100,7 @@ module _ {V : Type 0} (o : Operations V) (n : ℕ) (m : RawModule) where
         ++ repeated (flat_map (of_statement declared) (items_in b.block))) _ form.locals in
         let p2 = no_parts (flat_map used_locals (items_of b) ++ flat_map (used_arguments b) (items_of b)) _ p3.0 in
         let items = each_split (ItemOk o n m b c nodes) (scoped [] b.block) _ items_ok in
-        record { items = items.0; settings = form.settings; fresh = λ i ty e. cc (e); distinct = p2.1 }
+        record { items = items.0; settings = all_kept b.block p2.1 form.settings; fresh = λ i ty e. cc (e); distinct = p2.1 }
 
     pub last_ok : EachHas (ItemOk o n m b c nodes) (map (λ item. record { known = locals_of b.block; item = item }) b.last)
     last_ok = (each_split (ItemOk o n m b c nodes) (scoped [] b.block) _ items_ok).1

@@ -35,7 +35,7 @@ use Rattle.c_machine.specs.Machine.{Stop, undefined, found, typed, put_at, Machi
 use Rattle.c_machine.specs.MachineLaws.{SameMappings, SameTargets, SameCells, SameTypes, SameLengths, is_place, is_cell_at, flag_at, row_sets, temperature_cell, sets_place, some_statement, CallsKeep, same_place, loaded_at, NamedNowhere, LoadsAdd}
 use Rattle.c_machine.specs.Runs.{HostCall, set_parameter, setup_model, setup_instance, evaluate, load_residual_resist, load_residual_react, load_jacobian_resist, load_jacobian_react, load_jacobian_tran, load_rhs_dc, load_rhs_tran, is_load, row_for, raise_flag, set_by, run_body, run_call, with_temperature, model_scope, instance_scope, eval_scope}
 use Rattle.c_tree.specs.Text.{loads_of}
-use Rattle.c_tree.specs.rules.Cells.{same_level}
+use Rattle.c_tree.specs.rules.Reach.{same_level}
 use Rattle.c_machine.proofs.Endings.{then_gives, found_gives, only_if_gives, value_given, get_set_same, get_set_other}
 
 same_number : (i : ℕ) → (i == i) ≡ true

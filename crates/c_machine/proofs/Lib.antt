@@ -1,3 +1,4 @@
+pub mod Declarations
 pub mod Endings
 pub mod Following
 pub mod Formed

@@ -30,7 +30,7 @@ use Rattle.c_tree.specs.Spelling.{EachHas}
 use Rattle.c_tree.specs.Text.{field_type, load_functions, loads_of}
 use Rattle.c_tree.specs.rules.Bodies.{RawBody, function_body, plain_body, setup_of_model, setup_of_instance, evaluation, bodies_of, in_modules, in_bodies, items_of, Scoped}
 use Rattle.c_tree.specs.rules.Breaks.{one_break_a_loop, breaks_in}
-use Rattle.c_tree.specs.rules.Cells.{raw_loads, load_reached, only_where, has_dst, has_alpha, has_solution, target_reached, factor_reached, double_or_missing, cells_in_reach, cells_of_body, loads_reached, set_deeper, set_twice, of_fields, is_temperature, cells_set_in, out_of_reach}
+use Rattle.c_tree.specs.rules.Reach.{raw_loads, load_reached, only_where, has_dst, has_alpha, has_solution, target_reached, factor_reached, double_or_missing, cells_in_reach, cells_of_body, loads_reached, set_deeper, set_twice, of_fields, is_temperature, cells_set_in, out_of_reach}
 use Rattle.c_tree.specs.rules.Fields.{missing, access_flag, factors_of, loaded_field, same_field, type_among, instance_type, cell_type, unlike, cell_missing, body_cells, access_cells, fields_exist, fields_of_module, twice, load_cells, all_loads, node_cells}
 use Rattle.c_tree.specs.rules.Locals.{locals_declared, locals_in_body}
 use Rattle.c_tree.specs.rules.Numbering.{numbered_in_order}

@@ -15,7 +15,7 @@ use Rattle.c_machine.specs.NeverStuck.{AreBelow}
 use Rattle.c_tree.specs.Raw.{At, word_at, node_at, constant, join, head, assign, set_cell, set_flag, report, RawModule}
 use Rattle.c_tree.specs.Spelling.{EachHas}
 use Rattle.c_tree.specs.rules.Bodies.{Item, of_simple, of_test, of_value, Scoped, a_function, setup_of_model, setup_of_instance, evaluation, RawBody, atoms_of, cell_of, unknown_of, set_cells, of_statement}
-use Rattle.c_tree.specs.rules.Cells.{words_of_cells, words_of_flags, of_fields, is_set_up, of_instance, unknowns_of, solution_tokens, solution_instances, reports_of, flags_of, out_of_reach}
+use Rattle.c_tree.specs.rules.Reach.{words_of_cells, words_of_flags, of_fields, is_set_up, of_instance, unknowns_of, solution_tokens, solution_instances, reports_of, flags_of, out_of_reach}
 use Rattle.c_tree.specs.rules.Fields.{cells_in}
 use Rattle.c_tree.specs.rules.Tables.{below, item_numbers}
 use Rattle.c_tree.proofs.Blameless.{no_parts, flat_none, each_split, each_get, each_weaker}

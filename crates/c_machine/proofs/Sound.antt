@@ -29,9 +29,10 @@ use Rattle.c_tree.specs.rules.Bodies.{Declared, Item, of_simple, of_test, of_val
 use Rattle.c_tree.specs.rules.Breaks.{breaks_in}
 use Rattle.c_tree.specs.rules.Fields.{cell_type, missing, cell_missing, cells_in}
 use Rattle.c_tree.specs.rules.Locals.{locals_used, unless_among, used_locals, used_arguments, declared}
-use Rattle.c_tree.specs.rules.Settings.{sets, sets_in, reads, reads_in, set_once, after_join, after_declaration, settings_in}
+use Rattle.c_tree.specs.rules.Settings.{sets, sets_in, reads, reads_in, set_once, after_join, declaration, declarations}
 use Rattle.c_tree.specs.rules.Types.{type_of_local, type_of_argument, wanted_by, item_differs, item_calls}
 use Rattle.c_tree.proofs.Blameless.{no_parts, flat_none, each_split, tokens_split, repeated_split, turned_true, same_test}
+use Rattle.c_machine.proofs.Declarations.{IsKept}
 use Rattle.c_machine.proofs.Endings.{then_gives, value_given}
 use Rattle.c_machine.proofs.Keeping.{typed_gives, Each, each_any, run_keeps, loop_keeps, step_writes, write_types, write_maps}
 use Rattle.c_machine.proofs.Operands.{ScopeOk, MachineOk, UnknownOk, Valued, atom_valued, wanted_type, test_goes, right_fits}
@@ -378,7 +379,7 @@ module _ {V : Type 0} (o : Operations V) (n : ℕ) (m : RawModule) (b : RawBody)
   -- what the rules say of a block
   pub record BlockOk (known : List Declared) (x : RawBlock) : Type 0 where
     pub items : EachHas ItemOk (scoped known x)
-    pub settings : settings_in x ≡ []
+    pub settings : EachHas IsKept (declarations x)
     pub fresh : (i : ℕ) (ty : Ty) → type_of_local i known ≡ Some ty → tokens_of i (declared_in x) ≡ []
     pub distinct : repeated (declared_in x) ≡ []
 
@@ -493,7 +494,7 @@ module _ {V : Type 0} (o : Operations V) (n : ℕ) (m : RawModule) (b : RawBody)
     ok.items.0,
     record {
       items = ok.items.1;
-      settings = (no_parts (after_declaration s rest) (settings_in rest) ok.settings).1;
+      settings = (each_split IsKept (map (declaration s rest) (declared s)) (declarations rest) ok.settings).1;
       fresh = fresh_behind known s rest ok.fresh ok.distinct;
       distinct = (repeated_split (declared s) (declared_in rest) ok.distinct).1;
     },
@@ -509,8 +510,8 @@ module _ {V : Type 0} (o : Operations V) (n : ℕ) (m : RawModule) (b : RawBody)
   block_choice known a x y rest ok =
       let p = each_split ItemOk (scoped known x ++ scoped known y) (scoped known rest) ok.items.1 in
       let q = each_split ItemOk (scoped known x) (scoped known y) p.0 in
-      let s = no_parts (settings_in x ++ settings_in y) (settings_in rest) ok.settings in
-      let t = no_parts (settings_in x) (settings_in y) s.0 in
+      let s = each_split IsKept (declarations x ++ declarations y) (declarations rest) ok.settings in
+      let t = each_split IsKept (declarations x) (declarations y) s.0 in
       let d = three_repeated (of_statement declared) (items_in x) (items_in y) (items_in rest) ok.distinct in (
         ok.items.0,
         record {
@@ -536,7 +537,7 @@ module _ {V : Type 0} (o : Operations V) (n : ℕ) (m : RawModule) (b : RawBody)
   block_loop : (known : List Declared) (x rest : RawBlock) → BlockOk known (loop x rest) → BlockOk known x × BlockOk known rest
   block_loop known x rest ok =
       let p = each_split ItemOk (scoped known x) (scoped known rest) ok.items in
-      let s = no_parts (settings_in x) (settings_in rest) ok.settings in
+      let s = each_split IsKept (declarations x) (declarations rest) ok.settings in
       let d = two_repeated (of_statement declared) (items_in x) (items_in rest) ok.distinct in (
         record {
           items = p.0;
@@ -599,8 +600,7 @@ module _ {V : Type 0} (o : Operations V) (n : ℕ) (m : RawModule) (b : RawBody)
           let w = typed_gives ty a.0 d.0 d.1 in
           new_ready outer known y s t j.value ty d.0 (ap (λ u. State.locals u) (sym (value_given _ _ d.2))) (ap (λ u. type_of u) w.0 ∙ w.1) base
       by_statement (join ty j) y k g base =
-          new_slot outer known y s t j.value ty (ap (λ u. State.locals u) (sym (value_given _ _ g)))
-          (no_parts (after_join j.value y) (settings_in y) k.settings).0 base
+          new_slot outer known y s t j.value ty (ap (λ u. State.locals u) (sym (value_given _ _ g))) k.settings.0 base
       by_statement (head ty j first) y k g base =
           let a = then_gives (atom_value o c s first.value) _ t g in
           let d = then_gives (typed ty a.0) _ t a.2 in

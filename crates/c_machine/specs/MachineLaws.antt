@@ -20,7 +20,7 @@ use Rattle.c_machine.specs.Loading.{LoadArguments, Place, of_vector, of_matrix, 
 use Rattle.c_machine.specs.Machine.{Stop, undefined, Machine, place_of, cells_of}
 use Rattle.c_machine.specs.Runs.{row_for, setup_instance, HostCall, set_parameter, setup_model, evaluate, is_load, run_call, run_calls, run_to_end, last_machine, run_load_function}
 use Rattle.c_tree.specs.Text.{loads_of}
-use Rattle.c_tree.specs.rules.Cells.{same_level}
+use Rattle.c_tree.specs.rules.Reach.{same_level}
 
 -- A run of some calls and then others is the second from where the first ended.
 pub record RunsFollow (V : Type 0) (o : Operations V) (valid : V → Type 0) : Type 0 where

@@ -32,10 +32,9 @@ const HEADS: &str =
 <setup_instance> double v1 = 2 ; if ( v9 ) { } else { } @
 <setup_instance> double v1 = 2 ; for ( ; ; ) { if ( ! v9 ) { break ; } v1 = 2 ; } for ( ; ; ) { if ( ! v9 ) { break ; } @v1 = 2 ; }";
 
-/// Each declaration of a block counts.
+/// Each local of a block counts.
 const BLOCKS: &str =
     "<setup_instance> const double v1 = 2 ; double v2 = 2 ; for ( ; ; ) { if ( ! v9 ) { break ; } v2 = 2 ; }
-<setup_instance> const double v1 = 2 ; double v1 = 2 ; for ( ; ; ) { if ( ! v9 ) { break ; } @v1 = 2 ; }
 <setup_instance> if ( v9 ) { double v1 ; @} else { }
 <setup_instance> double v1 ; double v2 = 2 ; @v1 = 2 ; v2 = 2 ;";
 
@@ -48,11 +47,17 @@ const NESTED: &str =
 /// Each local of a block waits for itself.
 const SEVERAL: &str =
     "<setup_instance> double v1 ; double v2 ; if ( v9 ) { v1 = 2 ; v2 = 2 ; } else { v2 = 2 ; @}
-<setup_instance> if ( v9 ) { const double v1 = 2 ; } else { double v1 ; if ( v9 ) { v1 = 2 ; } else { v1 = 2 ; } }
-<setup_instance> if ( v9 ) { const double v1 = 2 ; } else { double v1 ; if ( v9 ) { v1 = 2 ; } else { @} }
-<setup_instance> const double v1 = 2 ; double v1 ; if ( v9 ) { @} else { v1 = 2 ; }
-<setup_instance> double v1 ; if ( v9 ) { v1 = 2 ; } else { v1 = 2 ; } double v1 ; double v1 ; inst -> r0 = @v1 ; if ( v9 ) { } else { }
 <setup_instance> double v1 ; if ( v9 ) { v1 = 2 ; } else { v1 = 2 ; } double v2 ; if ( v9 ) { v2 = 2 ; @v1 = 2 ; } else { v2 = 2 ; }";
+
+/// Of a number that is declared again the first declaration counts, also where its block has ended.
+const AGAIN: &str =
+    "<setup_instance> const double v1 = 2 ; double v1 = 2 ; for ( ; ; ) { if ( ! v9 ) { break ; } @v1 = 2 ; }
+<setup_instance> double v1 = 2 ; const double v1 = 2 ; for ( ; ; ) { if ( ! v9 ) { break ; } v1 = 2 ; }
+<setup_instance> const double v1 = 2 ; double v1 ; if ( v9 ) { } else { @v1 = 2 ; }
+<setup_instance> if ( v9 ) { const double v1 = 2 ; } else { double v1 ; if ( v9 ) { v1 = 2 ; } else { v1 = 2 ; } }
+<setup_instance> if ( v9 ) { const double v1 = 2 ; } else { double v1 ; if ( v9 ) { v1 = 2 ; } else { } }
+<setup_instance> if ( v9 ) { double v1 ; @} else { double v1 ; }
+<setup_instance> double v1 ; if ( v9 ) { v1 = 2 ; } else { v1 = 2 ; } double v1 ; double v1 ; inst -> r0 = v1 ; if ( v9 ) { } else { }";
 
 /// One `break` in front of a setting is enough.
 const BREAKS: &str =
@@ -64,7 +69,7 @@ const BREAKS: &str =
 #[test]
 fn locals_are_set_as_they_are_declared(rt: HostRuntime) -> Result<(), Fail> {
     for rows in [
-        CONSTANTS, JOINS, JOINS_READ, HEADS, BLOCKS, NESTED, SEVERAL, BREAKS,
+        CONSTANTS, JOINS, JOINS_READ, HEADS, BLOCKS, NESTED, SEVERAL, AGAIN, BREAKS,
     ] {
         check_lines(&rt, rt.alloc(), Rule::Settings, rows)?;
     }

@@ -4,10 +4,10 @@ use Rattle.c_tree.specs.declared.file.CFile.{CFile}
 use Rattle.c_tree.specs.FileOf.{file_of}
 use Rattle.c_tree.specs.Raw.{RawFile}
 use Rattle.c_tree.specs.rules.Breaks.{one_break_a_loop}
-use Rattle.c_tree.specs.rules.Cells.{cells_in_reach}
 use Rattle.c_tree.specs.rules.Fields.{fields_exist}
 use Rattle.c_tree.specs.rules.Locals.{locals_declared}
 use Rattle.c_tree.specs.rules.Numbering.{numbered_in_order}
+use Rattle.c_tree.specs.rules.Reach.{cells_in_reach}
 use Rattle.c_tree.specs.rules.Settings.{set_as_declared}
 use Rattle.c_tree.specs.rules.Tables.{tables_agree}
 use Rattle.c_tree.specs.rules.Types.{types_agree, calls_fit}

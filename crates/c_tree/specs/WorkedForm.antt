@@ -203,6 +203,11 @@ pub record WorkedSettings : Type 0 where
   -- no `if` follows: the setting, the reading and the closing brace
   pub no_choice : in_eval (join_then (sets_v0 103 (simple (set_cell (inst 107 (OpVar 0)) (local 111 0)) (closed 113)))) ≡ 103 ∷ 111 ∷ 113 ∷ []
   pub constant_again : in_eval (simple (constant Integer (on 102 0) (on 104 (same (whole 104 1)))) (sets_v0 106 (closed 110))) ≡ 106 ∷ []
+  -- of a number that is declared again the first declaration counts, also in another block
+  pub declared_again : in_eval (simple (constant Integer (on 102 0) (on 104 (same (whole 104 1))))
+      (simple (join Integer (on 107 0)) (sets_v0 109 (closed 113)))) ≡ 107 ∷ 109 ∷ []
+  pub declared_in_each_arm : in_eval (choice (whole 102 1) (simple (join Integer (on 106 0)) (closed 108))
+      (simple (join Integer (on 112 0)) (closed 114)) (closed 115)) ≡ 112 ∷ 108 ∷ []
   pub head_in_order : in_eval (head_then (loop (leave 110 (local 113 0) (sets_v0 119 (closed 123))) (closed 124))) ≡ []
   -- a setting before the `break` is blamed, and the missing one at the closing brace
   pub before_the_break : in_eval (head_then (loop (sets_v0 110 (leave 114 (local 117 0) (closed 123))) (closed 124))) ≡ 110 ∷ 123 ∷ []

@@ -1,9 +1,9 @@
 pub mod Bodies
 pub mod Breaks
-pub mod Cells
 pub mod Fields
 pub mod Locals
 pub mod Numbering
+pub mod Reach
 pub mod Settings
 pub mod Tables
 pub mod Types

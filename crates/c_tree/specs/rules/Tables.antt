@@ -14,9 +14,9 @@ use Rattle.c_tree.specs.Raw.{At, node_at, RawSimple, report, RawAccess, RawLoad,
 use Rattle.c_tree.specs.Text.{is_instance_kind, is_parameter_kind, is_opvar_kind}
 use Rattle.c_tree.specs.Words.{array_length}
 use Rattle.c_tree.specs.rules.Bodies.{Scoped, RawBody, bodies_of, items_of, of_statement, in_modules}
-use Rattle.c_tree.specs.rules.Cells.{unknowns_of, flags_of}
 use Rattle.c_tree.specs.rules.Fields.{same_field, all_loads, factors_of}
 use Rattle.c_tree.specs.rules.Numbering.{wants}
+use Rattle.c_tree.specs.rules.Reach.{unknowns_of, flags_of}
 
 -- a number that has to be below another
 abbrev pub below : ℕ → ℕ → ℕ → List ℕ

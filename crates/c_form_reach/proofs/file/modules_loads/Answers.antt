@@ -1,5 +1,5 @@
 use Rattle.std.proofs.Common.{arith}
-use Rattle.c_tree.specs.rules.Cells.{loads_reached}
+use Rattle.c_tree.specs.rules.Reach.{loads_reached}
 use Rattle.c_raw.specs.Views.{module_view}
 use Rattle.c_form.proofs.Blaming.{blames_element, blames_last}
 use Rattle.c_form_reach.proofs.file.modules_loads.Goals as goal

@@ -1,6 +1,6 @@
 use Rattle.std.proofs.Common.{ℕ, drop}
 use Rattle.std.specs.Prelude.{Option}
-use Rattle.c_tree.specs.rules.Cells.{loads_reached}
+use Rattle.c_tree.specs.rules.Reach.{loads_reached}
 use Rattle.c_raw.specs.Views.{module_view}
 use Rattle.c_form.specs.Blames.{Blames}
 use Rattle.c_form.proofs.Blaming.{parts_of}

@@ -1,5 +1,5 @@
 use Rattle.std.proofs.Common.{ap, sym, ◌∙◌}
-use Rattle.c_tree.specs.rules.Cells.{cells_set_in, is_temperature, of_fields, set_deeper, set_twice}
+use Rattle.c_tree.specs.rules.Reach.{cells_set_in, is_temperature, of_fields, set_deeper, set_twice}
 use Rattle.c_raw.specs.Blocks.{block_view}
 use Rattle.c_form.proofs.Blaming.{◌▸◌, blames_as}
 use Rattle.c_form.proofs.Flat.{block-of-body}

@@ -1,7 +1,7 @@
 use Rattle.std.proofs.Common.{ap, sym, ◌∙◌}
 use Rattle.std.specs.Prelude.{map}
 use Rattle.std.specs.List.{flat_map}
-use Rattle.c_tree.specs.rules.Cells.{loads_reached}
+use Rattle.c_tree.specs.rules.Reach.{loads_reached}
 use Rattle.c_raw.specs.Views.{module_view}
 use Rattle.c_form.proofs.Blaming.{◌▸◌, blames_as, least_is, unnumbered}
 use Rattle.c_form_reach.proofs.file.reach_fault.Goals as goal

@@ -3,7 +3,7 @@ use Rattle.std.specs.Prelude.{map}
 use Rattle.std.specs.List.{flat_map}
 use Rattle.c_tree.specs.declared.load.LoadFunction.{LoadFunction}
 use Rattle.c_tree.specs.declared.load.LoadFunction.TheVariants.{ResidualResist, ResidualReact, JacobianResist, JacobianReact, JacobianTran, SpiceRhsDc, SpiceRhsTran}
-use Rattle.c_tree.specs.rules.Cells.{load_reached, raw_loads}
+use Rattle.c_tree.specs.rules.Reach.{load_reached, raw_loads}
 use Rattle.c_raw.specs.Views.{load_view, loads_in}
 use Rattle.c_raw.specs.declared.load.RawLoad.{RawLoad}
 use Rattle.c_form.proofs.Blaming.{◌▸◌, blames_as, blames_none}

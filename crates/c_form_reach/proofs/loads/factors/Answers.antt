@@ -1,5 +1,5 @@
 use Rattle.std.proofs.Common.{arith}
-use Rattle.c_tree.specs.rules.Cells.{factor_reached}
+use Rattle.c_tree.specs.rules.Reach.{factor_reached}
 use Rattle.c_raw.specs.Blocks.{at_view}
 use Rattle.c_form.proofs.Blaming.{blames_at, blames_last}
 use Rattle.c_form_reach.proofs.loads.factors.Goals as goal

@@ -1,7 +1,7 @@
 use Rattle.std.proofs.Common.{ℕ, drop}
 use Rattle.std.specs.Prelude.{Option}
 use Rattle.c_tree.specs.Raw.{RawModule}
-use Rattle.c_tree.specs.rules.Cells.{factor_reached}
+use Rattle.c_tree.specs.rules.Reach.{factor_reached}
 use Rattle.c_raw.specs.Blocks.{at_view}
 use Rattle.c_form.specs.Blames.{Blames}
 use Rattle.c_form.specs.FieldTypes.{HasTypes}

@@ -1,7 +1,7 @@
 use Rattle.std.proofs.Common.{ap}
 use Rattle.std.specs.Prelude.{map}
 use Rattle.std.specs.List.{flat_map}
-use Rattle.c_tree.specs.rules.Cells.{factor_reached}
+use Rattle.c_tree.specs.rules.Reach.{factor_reached}
 use Rattle.c_raw.specs.Blocks.{at_view}
 use Rattle.c_form.proofs.Blaming.{◌▸◌, blames_as}
 use Rattle.c_form_reach.proofs.loads.load.Goals as goal

@@ -1,5 +1,5 @@
 use Rattle.std.proofs.Common.{arith}
-use Rattle.c_tree.specs.rules.Cells.{load_reached}
+use Rattle.c_tree.specs.rules.Reach.{load_reached}
 use Rattle.c_raw.specs.Views.{load_view}
 use Rattle.c_form.proofs.Blaming.{blames_element, blames_last}
 use Rattle.c_form_reach.proofs.loads.loads.Goals as goal

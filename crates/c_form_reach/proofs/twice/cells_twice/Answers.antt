@@ -1,7 +1,7 @@
 use Rattle.std.proofs.Common.{arith, ap, ◌∙◌}
 use Rattle.std.specs.Prelude.{map, false}
 use Rattle.c_tree.specs.Form.{least_of}
-use Rattle.c_tree.specs.rules.Cells.{same_cell}
+use Rattle.c_tree.specs.rules.Reach.{same_cell}
 use Rattle.c_raw.specs.Blocks.{at_view}
 use Rattle.c_form.proofs.Blaming.{blames_as}
 use Rattle.c_form.proofs.Seen.{again-end, again-same, again-step, blames_like, repeated-again}

@@ -1,6 +1,6 @@
 use Rattle.std.proofs.Common.{ℕ, drop}
 use Rattle.std.specs.Prelude.{map, Option, false}
-use Rattle.c_tree.specs.rules.Cells.{same_cell}
+use Rattle.c_tree.specs.rules.Reach.{same_cell}
 use Rattle.c_raw.specs.Blocks.{at_view}
 use Rattle.c_form.specs.Blames.{Blames}
 use Rattle.c_form.proofs.Seen.{again_by}

@@ -1,7 +1,7 @@
 use Rattle.std.proofs.Common.{ap, ◌∙◌}
 use Rattle.std.specs.Prelude.{map}
 use Rattle.c_tree.specs.rules.Bodies.{set_cells, set_flags}
-use Rattle.c_tree.specs.rules.Cells.{cells_twice, flags_twice}
+use Rattle.c_tree.specs.rules.Reach.{cells_twice, flags_twice}
 use Rattle.c_raw.specs.Blocks.{at_view}
 use Rattle.c_form.proofs.Blaming.{◌▸◌, blames_as}
 use Rattle.c_form_reach.proofs.Placing.{direct-body}

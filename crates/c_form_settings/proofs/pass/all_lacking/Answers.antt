@@ -1,7 +1,7 @@
 use Rattle.std.proofs.Common.{arith}
 use Rattle.c_form.proofs.Blaming.{plain_last}
 use Rattle.c_form_settings.specs.Passes.{lacking_in}
-use Rattle.c_form_settings.proofs.Following.{blames-here}
+use Rattle.c_form_settings.proofs.Least.{blames-here}
 use Rattle.c_form_settings.proofs.pass.all_lacking.Goals as goal
 
 pub loop-number-preserved : goal.loop-number-preserved

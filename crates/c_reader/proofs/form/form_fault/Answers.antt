@@ -1,7 +1,7 @@
 use Rattle.std.proofs.Common.{ℕ, List, ◌++◌}
 use Rattle.c_tree.specs.Raw.{RawFile}
 use Rattle.c_tree.specs.rules.Breaks.{one_break_a_loop}
-use Rattle.c_tree.specs.rules.Cells.{cells_in_reach}
+use Rattle.c_tree.specs.rules.Reach.{cells_in_reach}
 use Rattle.c_tree.specs.rules.Fields.{fields_exist}
 use Rattle.c_tree.specs.rules.Locals.{locals_declared}
 use Rattle.c_tree.specs.rules.Numbering.{numbered_in_order}
