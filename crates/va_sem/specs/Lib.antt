@@ -11,6 +11,7 @@ pub mod Lookup
 pub mod Meanings
 pub mod MeaningsLaws
 pub mod NamesFaults
+pub mod OwnTokens
 pub mod Scopes
 pub mod Sites
 pub mod SmallTrees
