@@ -100,8 +100,8 @@ names_in_nature n =
 
 abbrev pub names_in_discipline_item : DisciplineItem → List ℕ
 names_in_discipline_item (discipline.Binding at quantity nature) = nature.at ∷ []
-names_in_discipline_item (discipline.Override at quantity name value) = name.at ∷ names_in_value value
-names_in_discipline_item (discipline.Domain at name) = name.at ∷ []
+names_in_discipline_item (discipline.Override at quantity overridden value) = overridden.at ∷ names_in_value value
+names_in_discipline_item (discipline.Domain at domain) = domain.at ∷ []
 
 abbrev pub names_in_discipline : Discipline → List ℕ
 names_in_discipline d = names_in_attributes d.attributes ++ d.at ∷ flat_map names_in_discipline_item d.items
@@ -126,10 +126,10 @@ names_in_body (item.Direction at direction discipline names) = tokens_of (option
 names_in_body (item.Nodes at discipline names) = at ∷ tokens_of names
 names_in_body (item.Branch at first second names) = tokens_of (first ∷ option_to_list second) ++ tokens_of names
 names_in_body (item.Parameters at local ty parameters) = flat_map names_in_parameter parameters
-names_in_body (item.Alias at name target) = name.at ∷ target.at ∷ []
+names_in_body (item.Alias at second target) = second.at ∷ target.at ∷ []
 names_in_body (item.Variables declaration) = names_in_declaration declaration
-names_in_body (item.Function at ty name items body) =
-    name.at ∷ flat_map names_in_function_item items ++ names_in_statement (statement_of body)
+names_in_body (item.Function at ty called items body) =
+    called.at ∷ flat_map names_in_function_item items ++ names_in_statement (statement_of body)
 names_in_body (item.Analog at body) = names_in_statement (statement_of body)
 
 abbrev pub names_in_item : Item → List ℕ
