@@ -11,6 +11,7 @@ use Rattle.va_sem.specs.Declarations.{FunctionEntry, item_functions, functions_o
 use Rattle.va_sem.specs.Disciplines.{accesses_of, natures_of}
 use Rattle.va_sem.specs.Lookup.{Bytes}
 use Rattle.va_sem.specs.Meanings.{Known, Target, known_of, thing_meaning, called_meaning, access_meaning, access_to, target_of, is_flow_of, discipline_of_branch, meaning_of, meaning_by_role, use_at, module_uses}
+use Rattle.va_sem.specs.OwnTokens.{HasOwnTokens}
 use Rattle.va_sem.specs.NamesFaults.{CallEntry, called_function, call_entry, calls_of}
 use Rattle.va_sem.specs.Scopes.{Thing, Declared, node, branch, parameter, variable, function, label, alias, nothing}
 use Rattle.va_sem.specs.Sites.{Role, declares, calls, accesses, Around, Site, seen, in_function, in_module, function_sites, body_sites, site_of}
@@ -22,7 +23,6 @@ use Rattle.va_tree.specs.declared.module.ItemBody.TheVariants.{Function}
 use Rattle.va_tree.specs.declared.module.Module.{Module}
 use Rattle.va_tree.specs.declared.source.Source.{Source}
 use Rattle.va_meaning.specs.Called.{called, word_called, builtin_called}
-use Rattle.va_meaning.specs.CycleLaws.{HasOwnTokens}
 use Rattle.va_meaning.specs.Elaborated.{Elaborated}
 use Rattle.va_meaning.specs.Nesting.{IfFunction}
 use Rattle.va_sem.proofs.Contained.{Has, all_of_has, from_flat, from_order, has_append, has_right, has_flat, has_filter_map, has_place}

@@ -2,9 +2,8 @@
 use Rattle.std.specs.Prelude.{◌≡◌, ℕ, ◌≤◌, ◌<◌, List, [], Some, length}
 use Rattle.std.specs.List.{slice_get}
 use Rattle.alg_laws.specs.Operations.{Operations}
-use Rattle.va_sem.specs.Meanings.{known_of}
 use Rattle.va_sem.specs.NamesFaults.{names_faults}
-use Rattle.va_sem.specs.Sites.{Site}
+use Rattle.va_sem.specs.OwnTokens.{HasOwnTokens}
 use Rattle.va_tree.specs.declared.module.Module.{Module}
 use Rattle.va_tree.specs.declared.source.Source.{Source}
 use Rattle.va_meaning.specs.Elaboration.{module_seen}
@@ -12,11 +11,6 @@ use Rattle.va_meaning.specs.Evaluation.{functions, functions_to, evaluated, eval
 use Rattle.va_meaning.specs.Nesting.{IsWithoutCycle}
 use Rattle.va_meaning.specs.Points.{Point, over, without_unknowns}
 use Rattle.va_meaning.specs.Values.{Result}
-
--- Each name of a module stands at a token of its own, as in every text.
-abbrev pub HasOwnTokens : Source → Module → Type 0
-HasOwnTokens s m = (i j : ℕ) (a b : Site) → slice_get (known_of s m).sites i ≡ Some a → slice_get (known_of s m).sites j ≡ Some b
-    → a.at ≡ b.at → i ≡ j
 
 -- The module of a number, in a text whose names have no fault.
 pub record IsOfSoundNames (s : Source) (number : ℕ) (m : Module) : Type 0 where

@@ -2,6 +2,7 @@ pub mod Declarations
 pub mod ExpressionLaws
 pub mod Expressions
 pub mod Nodes
+pub mod OwnTokens
 pub mod Parts
 pub mod Preorder
 pub mod Size
