@@ -1,5 +1,5 @@
 -- What is said of each value that the statements of a module ask for (Analog procedural block).
-use Rattle.std.specs.Prelude.{ℕ, Bool, true, false, List, [], ◌∷◌}
+use Rattle.std.specs.Prelude.{Bool, true, false, List, [], ◌∷◌}
 use Rattle.va_sem.specs.rules.Values.{Purpose, assigned, contributed, tested}
 use Rattle.va_tree.specs.declared.stmt.EventKind.TheVariants.{InitialStep, FinalStep}
 use Rattle.va_tree.specs.Expressions.{Expression}

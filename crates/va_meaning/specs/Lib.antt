@@ -15,6 +15,7 @@ pub mod Rows
 pub mod Runs
 pub mod SetUp
 pub mod SetUpLaws
+pub mod TimeLaws
 pub mod Timed
 pub mod TypeLaws
 pub mod Types

@@ -1,6 +1,6 @@
 -- What holds time derivatives, and at which places these stand (Time derivative operator). This profile tells it by timed variables:
 -- a module keeps to a set of them.
-use Rattle.std.specs.Prelude.{◌≡◌, ◌⊎◌, ℕ, Bool, true, false, List, [], ◌∷◌, Option, Some, None}
+use Rattle.std.specs.Prelude.{◌≡◌, ℕ, Bool, true, false, List, [], ◌∷◌, Option, Some, None}
 use Rattle.std.specs.List.{slice_get}
 use Rattle.alg_laws.specs.declared.number.Ty.{Ty}
 use Rattle.alg_laws.specs.declared.number.Ty.TheVariants.{Integer, Real}
@@ -14,7 +14,6 @@ use Rattle.va_tree.specs.declared.expr.BinaryOp.TheVariants.{Add, Subtract, Mult
 use Rattle.va_tree.specs.declared.expr.Callee.{Callee}
 use Rattle.va_tree.specs.declared.expr.UnaryOp.TheVariants.{Plus, Minus}
 use Rattle.va_tree.specs.Expressions.{Expression, Arguments, literal, infinity, name, group, unary, binary, choose, call, no_more, text_then, expression_then}
-use Rattle.va_tree.specs.Statements.{Statement}
 use Rattle.va_meaning.specs.Bias.{IsFixed}
 use Rattle.va_meaning.specs.Called.{Called, builtin, system, function, access, none, called}
 use Rattle.va_meaning.specs.EachValue.{EachValue, EachValueOfBlocks}
