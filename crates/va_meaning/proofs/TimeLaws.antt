@@ -39,7 +39,7 @@ use Rattle.va_tree.specs.declared.module.Variable.{Variable}
 use Rattle.va_tree.specs.declared.source.Source.{Source}
 use Rattle.va_tree.specs.declared.stmt.EventKind.TheVariants.{InitialStep, FinalStep}
 use Rattle.va_tree.specs.Declarations.{declared, initialisers, if_there}
-use Rattle.va_tree.specs.Expressions.{Expression, name, at_of, expression_of}
+use Rattle.va_tree.specs.Expressions.{Expression, at_of, expression_of}
 use Rattle.va_tree.specs.Statements.{Statement, Statements, Items, Defaults, null, block, only_if, if_else, cases, for_loop, while_loop, repeat_loop, event, assign, contribute, task, no_more as no_statement, statement_then, no_items, item_then, no_defaults, default_then, statement_of}
 use Rattle.va_meaning.specs.EachValue.{EachValue, EachValueOfBlocks}
 use Rattle.va_meaning.specs.Elaborated.{Elaborated, Initialiser}
