@@ -1,5 +1,5 @@
 -- What a host does with an instance, and its runs: lists of calls with the machine after each.
-use Rattle.std.specs.Prelude.{ℕ, Bool, true, false, ◌==◌, ◌&&◌, ◌||◌, not, pos, if◌then◌else◌, List, [], ◌∷◌, Option, Some, None}
+use Rattle.std.specs.Prelude.{ℕ, Bool, true, false, ◌==◌, ◌&&◌, ◌||◌, not, nat_lt, pos, if◌then◌else◌, List, [], ◌∷◌, Option, Some, None}
 use Rattle.alg_laws.specs.declared.number.Number.{Number}
 use Rattle.alg_laws.specs.declared.number.Number.TheVariants.{Real, Int}
 use Rattle.alg_laws.specs.Operations.{Operations}
@@ -152,9 +152,10 @@ module _ {V : Type 0} where
   begins_round (setup_instance t ∷ rest) = begins_evaluations rest
   begins_round _ = false
 
-  -- A run: settings of parameters, the set-up of the model, and one or more rounds. A round is a set-up of the instance, an
-  -- evaluation, and then evaluations and loads.
-  abbrev pub is_run : List (HostCall V) → Bool
-  is_run (set_parameter instance id v ∷ rest) = is_run rest
-  is_run (setup_model ∷ rest) = begins_round rest
-  is_run _ = false
+  -- A run of a module that has so many parameters of the instance, whose ids are the first: settings of parameters, on the instance
+  -- of its own alone, the set-up of the model, and one or more rounds. A round is a set-up of the instance, an evaluation, and then
+  -- evaluations and loads.
+  abbrev pub is_run : ℕ → List (HostCall V) → Bool
+  is_run own (set_parameter instance id v ∷ rest) = (not instance || nat_lt id own) && is_run own rest
+  is_run own (setup_model ∷ rest) = begins_round rest
+  is_run own _ = false

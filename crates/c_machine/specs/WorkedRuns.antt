@@ -206,14 +206,17 @@ pub record WorkedBodies : Type 0 where
       ≡ ends stuck
   pub another_type : cells_after (only_eval (Simple (SetCell (inst (OpVar 0)) (real 1 (pos 0))) ∷ [])) 0 (evaluate [] ∷ []) ≡ ends stuck
 
-abbrev pub is_run_of_residues : List (HostCall ℕ) → Bool
+abbrev pub is_run_of_residues : ℕ → List (HostCall ℕ) → Bool
 is_run_of_residues = is_run
 
 -- which lists of calls are runs
 pub record WorkedCalls : Type 0 where
-  pub a_run : is_run_of_residues (at_two (load_residual_resist ∷ setup_instance 301 ∷ evaluate [] ∷ [])) ≡ true
-  pub no_round : is_run_of_residues (set_parameter false 0 (Real 2) ∷ setup_model ∷ []) ≡ false
-  pub no_evaluation : is_run_of_residues (diode_with 0) ≡ false
-  pub load_first : is_run_of_residues (setup_model ∷ setup_instance 300 ∷ load_residual_resist ∷ []) ≡ false
-  pub late_setting : is_run_of_residues (at_two (set_parameter false 0 (Real 2) ∷ [])) ≡ false
-  pub no_set_up : is_run_of_residues (setup_instance 300 ∷ evaluate (7 ∷ []) ∷ []) ≡ false
+  pub a_run : is_run_of_residues 0 (at_two (load_residual_resist ∷ setup_instance 301 ∷ evaluate [] ∷ [])) ≡ true
+  pub no_round : is_run_of_residues 0 (set_parameter false 0 (Real 2) ∷ setup_model ∷ []) ≡ false
+  pub no_evaluation : is_run_of_residues 1 (diode_with 0) ≡ false
+  pub load_first : is_run_of_residues 0 (setup_model ∷ setup_instance 300 ∷ load_residual_resist ∷ []) ≡ false
+  pub late_setting : is_run_of_residues 0 (at_two (set_parameter false 0 (Real 2) ∷ [])) ≡ false
+  pub no_set_up : is_run_of_residues 0 (setup_instance 300 ∷ evaluate (7 ∷ []) ∷ []) ≡ false
+  -- on an instance its own parameters alone are set
+  pub its_own : is_run_of_residues 1 (set_parameter true 0 (Real 2) ∷ at_two []) ≡ true
+  pub of_the_model : is_run_of_residues 1 (set_parameter true 1 (Real 2) ∷ at_two []) ≡ false

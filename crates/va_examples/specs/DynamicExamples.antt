@@ -1,14 +1,15 @@
 -- Modules with time derivatives, potential branches, collapsing branches and parameters, with values worked out by hand modulo
 -- 1000003. Above each row stands the text of the module's items.
-use Rattle.std.specs.Prelude.{◌≡◌, ℕ, pos, true, false, List, [], ◌∷◌, Some, None, codes}
+use Rattle.std.specs.Prelude.{◌≡◌, ℕ, ◌==◌, pos, Bool, true, false, List, [], ◌∷◌, Some, None, codes}
 use Rattle.alg_laws.specs.declared.number.Number.TheVariants.{Real, Int}
 use Rattle.alg_laws.specs.declared.number.Reason.TheVariants.{IntRange}
 use Rattle.alg_laws.specs.Outcome.{gives, ends}
 use Rattle.va_tree.specs.declared.expr.BinaryOp.TheVariants.{Greater, Add, Multiply, Divide}
 use Rattle.va_tree.specs.declared.module.Item.{Item}
 use Rattle.va_tree.specs.declared.module.Ty.TheVariants as ty
-use Rattle.va_examples.specs.Notation.{Text, whole, name, infinity, between, expression, system, of, across, contribute, contribute_alone, begins, if_only, if_or_else, defaulted, from, excluding, parameters, instance_parameters, alias, branch, node, analog}
-use Rattle.va_examples.specs.Examples.{v_a, to_a, to_a_c, by_default, on_model, on_instance, part, rows_at, flags_at, errors_at, columns_at}
+use Rattle.va_meaning.specs.Timed.{KeepsToTime, HasLinearTime}
+use Rattle.va_examples.specs.Notation.{Text, whole, name, infinity, between, expression, system, of, across, contribute, contribute_alone, begins, if_only, if_or_else, defaulted, from, excluding, parameters, instance_parameters, alias, branch, node, variable, variables, assign, analog}
+use Rattle.va_examples.specs.Examples.{v_a, to_a, to_a_c, by_default, on_model, on_instance, part, rows_at, flags_at, errors_at, columns_at, moved_rows, model}
 
 abbrev real_parameter : ℕ → List ℕ → Text Item
 real_parameter value p = parameters false (Some ty.Real) (defaulted p (whole value) [] ∷ [])
@@ -109,6 +110,16 @@ asks_for_it = real_parameter 1 (codes "p") ∷ analog (to_a (system (codes "$par
 abbrev open_end : List (Text Item)
 open_end = parameters false (Some ty.Integer) (defaulted (codes "k") (whole 4) (from false (whole 4) infinity false ∷ []) ∷ []) ∷ analog (to_a (whole 0)) ∷ []
 
+-- parameter real p = 2; localparam real h = p * p; analog I(a) <+ $param_given(p) + h * V(a);
+abbrev asks_and_derives : List (Text Item)
+asks_and_derives =
+    real_parameter 2 (codes "p")
+    ∷ parameters true (Some ty.Real) (defaulted (codes "h") (between (name (codes "p")) Multiply (name (codes "p"))) [] ∷ [])
+    ∷ analog
+    (to_a
+    (between (system (codes "$param_given") (expression (name (codes "p")) ∷ [])) Add (between (name (codes "h")) Multiply v_a)))
+    ∷ []
+
 -- Set-up.
 pub record WorkedSetUps : Type 0 where
   pub both_out_of_range : errors_at ranges (on_model (Some (Real 1) ∷ Some (Int (pos 3)) ∷ [])) (0 ∷ 0 ∷ []) ≡ gives (0 ∷ 1 ∷ [])
@@ -121,3 +132,25 @@ pub record WorkedSetUps : Type 0 where
   pub given_on_the_model : rows_at level_alone (on_model (None ∷ Some (Int (pos 1)) ∷ [])) (0 ∷ 0 ∷ []) ≡ gives (part 1 0 ∷ part 0 0 ∷ [])
   pub was_not_given : rows_at asks_for_it by_default (0 ∷ 0 ∷ []) ≡ gives (part 0 0 ∷ part 0 0 ∷ [])
   pub was_given : rows_at asks_for_it (on_model (Some (Real 1) ∷ [])) (0 ∷ 0 ∷ []) ≡ gives (part 1 0 ∷ part 0 0 ∷ [])
+  -- 2 * 2 * 5, which moves by 2 * 2 * 5 where p moves: what follows from p moves with it, and p is not given
+  pub moves_ungiven : moved_rows asks_and_derives 0 2 (5 ∷ 0 ∷ [])
+      ≡ gives (record { main = part 20 20; part = part 0 0 } ∷ record { main = part 0 0; part = part 0 0 } ∷ [])
+
+-- parameter real l = 3; real q; analog begin q = ddt(V(a)); I(a) <+ l * q; end
+abbrev stored : List (Text Item)
+stored =
+    real_parameter 3 (codes "l")
+    ∷ variables ty.Real (variable (codes "q") ∷ [])
+    ∷ analog (begins (assign (codes "q") (of (codes "ddt") v_a) ∷ to_a (between (name (codes "l")) Multiply (name (codes "q"))) ∷ []))
+    ∷ []
+
+abbrev only_first : ℕ → Bool
+only_first x = x == 0
+
+-- What is timed, and linear places.
+pub record WorkedTimes : Type 0 where
+  -- q, the variable of number 0, is timed and biased; what is contributed is linear in it
+  pub keeps : KeepsToTime (model stored) only_first
+  pub linear : HasLinearTime (model stored) only_first only_first
+  -- without q in the set the assignment breaks what is asked
+  pub must_be_timed : KeepsToTime (model stored) (λ x. false) → ⊥

@@ -1,8 +1,10 @@
 -- What a small module gives at a point, over the numbers modulo 1000003.
-use Rattle.std.specs.Prelude.{ℕ, zero, suc, ◌+◌, Bool, List, [], ◌∷◌, Option, None, codes, get_or, length}
+use Rattle.std.specs.Prelude.{ℕ, zero, suc, ◌+◌, ◌==◌, Bool, if◌then◌else◌, List, [], ◌∷◌, Option, Some, None, codes, get_or, length}
 use Rattle.alg_laws.specs.declared.dual.Dual.{Dual}
 use Rattle.alg_laws.specs.declared.number.Number.{Number}
+use Rattle.alg_laws.specs.declared.number.Number.TheVariants.{Real}
 use Rattle.alg_laws.specs.declared.number.Reason.{Reason}
+use Rattle.alg_laws.specs.Dual.{dual}
 use Rattle.alg_laws.specs.Outcome.{Outcome, gives, ◌>>=◌}
 use Rattle.alg_laws.specs.Residue.{residue_ops}
 use Rattle.va_tree.specs.declared.expr.Expr.{Expr}
@@ -16,8 +18,8 @@ use Rattle.va_sem.specs.Meanings.{names_of_module}
 use Rattle.va_sem.specs.SmallTrees.{natures, disciplines, module_at}
 use Rattle.va_meaning.specs.Elaborated.{Elaborated}
 use Rattle.va_meaning.specs.Elaboration.{elaborated}
-use Rattle.va_meaning.specs.Residuals.{jacobian_column, operating_value}
-use Rattle.va_meaning.specs.SetUp.{Settings, Answer, answer, instance_level, point_of, collapse_flags}
+use Rattle.va_meaning.specs.Residuals.{jacobian_column, operating_value, residual_parts}
+use Rattle.va_meaning.specs.SetUp.{Settings, Answer, answer, instance_level, was_given, point_of, collapse_flags}
 use Rattle.va_examples.specs.Notation.{Text, n, row, plain, across, to_ground, contribute, contribute_alone}
 
 -- module m(a, c); inout a, c; electrical a, c; items endmodule, with `electrical`, `V` and `I` declared before it
@@ -89,7 +91,7 @@ variable_at x items settings unknowns = answer_at items settings unknowns >>= λ
 abbrev pub columns_from : Elaborated → Settings ℕ → List (Number ℕ) → List ℕ → ℕ → ℕ → Outcome Reason (List (List (Dual ℕ)))
 columns_from M settings values unknowns j zero = gives []
 columns_from M settings values unknowns j (suc more) = do
-  column ← jacobian_column M residue_ops (point_of M residue_ops settings values 300 (λ i. get_or unknowns i 0)) 10 j
+  column ← jacobian_column M residue_ops (point_of M residue_ops (was_given M residue_ops settings) values 300 (λ i. get_or unknowns i 0)) 10 j
   rest ← columns_from M settings values unknowns (j + 1) more
   gives (column ∷ rest)
 
@@ -97,3 +99,10 @@ abbrev pub columns_at : List (Text Item) → Settings ℕ → List ℕ → Outco
 columns_at items settings unknowns = do
   instance ← instance_level (model items) residue_ops settings
   columns_from (model items) settings instance.values unknowns 0 (length unknowns)
+
+-- The residuals where a parameter moves on the model from a value, nothing is given, and no unknown moves. Each has two parts, and each
+-- of these its sensitivity.
+abbrev pub moved_rows : List (Text Item) → ℕ → ℕ → List ℕ → Outcome Reason (List (Dual (Dual ℕ)))
+moved_rows items number value unknowns = do
+  instance ← instance_level (model items) (dual residue_ops) (record { model = λ p. if p == number then Some (Real (part value 1)) else None; instance = λ p. None })
+  residual_parts (model items) (dual residue_ops) (point_of (model items) (dual residue_ops) (was_given (model items) residue_ops by_default) instance.values (part 300 0) (λ i. part (get_or unknowns i 0) 0)) 10

@@ -1,5 +1,5 @@
 //! What small modules mean, worked out by hand, as contracts: the definitions compute to it.
-ghost use Rattle.va_examples.specs.DynamicExamples.{WorkedCollapses, WorkedDerivatives, WorkedSetUps};
+ghost use Rattle.va_examples.specs.DynamicExamples.{WorkedCollapses, WorkedDerivatives, WorkedSetUps, WorkedTimes};
 ghost use Rattle.va_examples.specs.FaultExamples.{WorkedFaults, WorkedLimits};
 ghost use Rattle.va_examples.specs.LanguageExamples.{WorkedModules, WorkedOperators, WorkedStatements};
 ghost use Rattle.va_examples.specs.StaticExamples.{WorkedCalls, WorkedLoops, WorkedStraight};
@@ -32,6 +32,11 @@ pub fn collapses_worked_by_hand()
 /// Parameters: given values, defaults, ranges.
 pub fn set_ups_worked_by_hand()
     ensures { WorkedSetUps }
+{}
+
+/// What is timed, and the places at which time derivatives stand.
+pub fn times_worked_by_hand()
+    ensures { WorkedTimes }
 {}
 
 /// Operators on integers and reals.

@@ -46,7 +46,7 @@ use Rattle.va_meaning.specs.SetUpLaws.{parameter_type}
 use Rattle.va_meaning.specs.Types.{result_type}
 
 -- answers of tests
-left_false : (a b : Bool) → (a || b) ≡ false → a ≡ false
+pub left_false : (a b : Bool) → (a || b) ≡ false → a ≡ false
 left_false true b h = h
 left_false false b h = refl
 
@@ -60,7 +60,7 @@ any_left f xs ys h = left_false (list_any f xs) (list_any f ys) (sym (list_any-a
 any_right : {T : Type 0} (f : T → Bool) (xs ys : List T) → list_any f (xs ++ ys) ≡ false → list_any f ys ≡ false
 any_right f xs ys h = right_false (list_any f xs) (list_any f ys) (sym (list_any-append f xs ys) ∙ h)
 
-or_swap : (a b : Bool) → (a || b) ≡ (b || a)
+pub or_swap : (a b : Bool) → (a || b) ≡ (b || a)
 or_swap true true = refl
 or_swap true false = refl
 or_swap false true = refl
@@ -135,7 +135,7 @@ module _ (M : Elaborated) (biased : ℕ → Bool) where
   system_fixed None args A B all first h = tt
 
   mutual
-    unbiased_fixed : (e : Expression) → list_any reads (looked_at e) ≡ false
+    pub unbiased_fixed : (e : Expression) → list_any reads (looked_at e) ≡ false
         → IsFixed M biased e
     unbiased_fixed (literal at value integer) h = tt
     unbiased_fixed (infinity at) h = tt
@@ -203,7 +203,7 @@ module _ (M : Elaborated) (biased : ℕ → Bool) where
   exchange false false true = refl
   exchange false false false = refl
 
-  one_more_under : (b i : Bool) (es : List Expression) → under_all M (b || i) es ≡ (i || under_all M b es)
+  pub one_more_under : (b i : Bool) (es : List Expression) → under_all M (b || i) es ≡ (i || under_all M b es)
   one_more_under b i [] = or_swap b i
   one_more_under b i (e ∷ es) = ap (λ x. under_all M x es) (exchange b i (M.is_biased e)) ∙ one_more_under (b || M.is_biased e) i es
 
@@ -213,7 +213,7 @@ module _ (M : Elaborated) (biased : ℕ → Bool) where
   conditions_under b (e ∷ es) conditions h =
       (λ j. M.is_biased e || conditions_under b es conditions h j) ∙ sym (one_more_under b (M.is_biased e) es)
 
-  tests_are_values : (items : Items) → tests_of items ≡ item_values items
+  pub tests_are_values : (items : Items) → tests_of items ≡ item_values items
   tests_are_values no_items = refl
   tests_are_values (item_then at values body rest) = ap (λ es. values ++ es) (tests_are_values rest)
 

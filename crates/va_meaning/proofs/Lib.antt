@@ -12,7 +12,11 @@ pub mod Nesting
 pub mod NumberedCalls
 pub mod Partial
 pub mod Related
+pub mod SetUpErrors
 pub mod SetUpLaws
+pub mod SetUpsRelated
+pub mod TimeLaws
+pub mod Timed
 pub mod TypeLaws
 pub mod TypedStores
 pub mod Types

@@ -16,8 +16,8 @@ use Rattle.alg_laws.proofs.Relations.{validity_relates}
 use Rattle.va_tree.specs.Expressions.{Expression}
 use Rattle.va_meaning.specs.Elaborated.{Elaborated, Parameter}
 use Rattle.va_meaning.specs.Related.{ContextsRelated}
-use Rattle.va_meaning.specs.SetUp.{Settings, else_given, knowing, constant_value, parameter_value, values_from, Level, counts_on_instance, level, given_to_instance, instance_level, errors_from}
-use Rattle.va_meaning.specs.SetUpLaws.{FitsParameter, SettingsFit, PointsOfSetUps}
+use Rattle.va_meaning.specs.SetUp.{Settings, else_given, knowing, constant_value, parameter_value, values_from, Level, counts_on_model, counts_on_instance, level, given_to_model, model_level, given_to_instance, instance_level, errors_from}
+use Rattle.va_meaning.specs.SetUpLaws.{FitsParameter, SettingsFit, LevelFits, PointsOfSetUps}
 use Rattle.va_meaning.specs.Values.{Result, no_value}
 use Rattle.va_meaning.proofs.Partial.{IfGives, anything, then_if}
 use Rattle.va_meaning.proofs.Related.{value_related}
@@ -140,24 +140,51 @@ module _ {V : Type 0} (M : Elaborated) (o : Operations V) (valid unit : V → Ty
       (λ vs w. then_if (λ (errors : List ℕ). Unit {0}) _ (errors_from M o vs 0 M.parameters) _ (anything (errors_from M o vs 0 M.parameters))
       (λ errors i. subst (λ (vs : List (Number V)). Fit vs M.parameters) (sym w.1) w.2))
 
-  instance_fits : (settings : Settings V) → SettingsFit M valid settings → IfGives (λ (lev : Level V). Fit lev.values M.parameters) (instance_level M o settings)
-  instance_fits settings h =
-      level_fits (given_to_instance M o settings)
-      (all_given_fit (given_to_instance M o settings) 0 M.parameters
-      (λ i v e. counted_fits (slice_get M.parameters i) (settings.instance i) (settings.model i) (h.on_model i) (h.on_instance i) v
-      (ap (given_to_instance M o settings) (let same : i ≡ 0 + i = omega arith in same) ∙ e)))
+  fit_long : (vs : List (Number V)) (ps : List Parameter) → Fit vs ps → length vs ≡ length ps
+  fit_long [] [] h = refl
+  fit_long [] (q ∷ ps) h = absurd h
+  fit_long (v ∷ vs) [] h = absurd h
+  fit_long (v ∷ vs) (q ∷ ps) h = ap suc (fit_long vs ps h.1)
 
-  fits_at : (settings : Settings V) → SettingsFit M valid settings → (lev : Level V) → instance_level M o settings ≡ gives lev → (p : ℕ)
-      → FitsParameter valid (slice_get M.parameters p) (get_or lev.values p (no_value o))
-  fits_at settings h lev e p =
-      fits_there lev.values M.parameters (subst (λ (a : Outcome Reason (Level V)). IfGives (λ (lev : Level V). Fit lev.values M.parameters) a) e (instance_fits settings h)) p
+  counted_on_model : (q : Option Parameter) (m : Option (Number V)) → ((v : Number V) → m ≡ Some v → FitsParameter valid q v)
+      → (v : Number V) → counts_on_model q m ≡ Some v → FitsParameter valid q v
+  counted_on_model None m h v e = cc (e)
+  counted_on_model (Some p) m h v e = h v (kept p.local m v e)
+    where
+      kept : (b : Bool) (m : Option (Number V)) (v : Number V) → (if b then None else m) ≡ Some v → m ≡ Some v
+      kept true m v e = cc (e)
+      kept false m v e = e
+
+  level_is_fit : (given : ℕ → Option (Number V)) → GivenFits given 0 M.parameters → (lev : Level V) → level M o given ≡ gives lev → LevelFits M o valid lev
+  level_is_fit given h lev e =
+      let fit = subst (λ (a : Outcome Reason (Level V)). IfGives (λ (lev : Level V). Fit lev.values M.parameters) a) e (level_fits given h) in
+      record { long = fit_long lev.values M.parameters fit; values = fits_there lev.values M.parameters fit }
+
+  given_from : (given : ℕ → Option (Number V)) → ((i : ℕ) (v : Number V) → given i ≡ Some v → FitsParameter valid (slice_get M.parameters i) v)
+      → GivenFits given 0 M.parameters
+  given_from given h =
+      all_given_fit given 0 M.parameters (λ i v e. h i v (ap given (let same : i ≡ 0 + i = omega arith in same) ∙ e))
+
+  model_fits : (settings : Settings V) → SettingsFit M valid settings → (lev : Level V) → model_level M o settings ≡ gives lev → LevelFits M o valid lev
+  model_fits settings h =
+      level_is_fit (given_to_model M o settings)
+      (given_from (given_to_model M o settings)
+      (λ i v e. counted_on_model (slice_get M.parameters i) (settings.model i) (h.on_model i) v e))
+
+  instance_fits : (settings : Settings V) → SettingsFit M valid settings → (lev : Level V) → instance_level M o settings ≡ gives lev → LevelFits M o valid lev
+  instance_fits settings h =
+      level_is_fit (given_to_instance M o settings)
+      (given_from (given_to_instance M o settings)
+      (λ i v e. counted_fits (slice_get M.parameters i) (settings.instance i) (settings.model i) (h.on_model i) (h.on_instance i) v e))
 
 pub points_of_set_ups : {V : Type 0} (o : Operations V) (valid unit : V → Type 0) → IsAlgebra o valid unit → PointsOfSetUps V o valid
 points_of_set_ups o valid unit l = record {
-  valid_point = λ M settings temperature unknowns h t u lev e. record {
-    parameters = λ p. (fits_at M o valid unit l settings h lev e p).value;
+  model = λ M settings h lev e. model_fits M o valid unit l settings h lev e;
+  instance = λ M settings h lev e. instance_fits M o valid unit l settings h lev e;
+  valid_point = λ M settings given temperature unknowns h t u lev e. record {
+    parameters = λ p. ((instance_fits M o valid unit l settings h lev e).values p).value;
     temperature = t;
     unknowns = u;
   };
-  typed_point = λ M settings temperature unknowns h lev e p. (fits_at M o valid unit l settings h lev e p).ty;
+  typed_point = λ M settings given temperature unknowns h lev e p. ((instance_fits M o valid unit l settings h lev e).values p).ty;
 }

@@ -1,6 +1,7 @@
 pub mod Bias
 pub mod Called
 pub mod CycleLaws
+pub mod EachValue
 pub mod Elaborated
 pub mod Elaboration
 pub mod ElaborationLaws
@@ -14,6 +15,8 @@ pub mod Rows
 pub mod Runs
 pub mod SetUp
 pub mod SetUpLaws
+pub mod TimeLaws
+pub mod Timed
 pub mod TypeLaws
 pub mod Types
 pub mod Unknowns

@@ -127,9 +127,12 @@ module _ {V : Type 0} (M : Elaborated) (o : Operations V) where
     errors ← errors_from M o values 0 M.parameters
     gives (record { values = values; errors = errors })
 
+  abbrev pub given_to_model : Settings V → ℕ → Option (Number V)
+  given_to_model settings p = counts_on_model (slice_get M.parameters p) (settings.model p)
+
   -- set-up of the model
   abbrev pub model_level : Settings V → Outcome Reason (Level V)
-  model_level settings = level (λ p. counts_on_model (slice_get M.parameters p) (settings.model p))
+  model_level settings = level (given_to_model settings)
 
   abbrev pub given_to_instance : Settings V → ℕ → Option (Number V)
   given_to_instance settings p = counts_on_instance (slice_get M.parameters p) (settings.model p) (settings.instance p)
@@ -138,11 +141,16 @@ module _ {V : Type 0} (M : Elaborated) (o : Operations V) where
   abbrev pub instance_level : Settings V → Outcome Reason (Level V)
   instance_level settings = level (given_to_instance settings)
 
-  -- The point of an instance: its values, and which parameters were given, on the model or there.
-  abbrev pub point_of : Settings V → List (Number V) → V → (ℕ → V) → Point V
-  point_of settings values temperature unknowns = record {
+  -- whether a parameter was given, on the model or on the instance
+  abbrev pub was_given : Settings V → ℕ → Bool
+  was_given settings p = is_some (given_to_instance settings p)
+
+  -- The point of an instance: its values, and which parameters were given. These marks stand apart from the settings whose values are
+  -- taken: a setting that only moves a parameter over dual numbers doesn't give it.
+  abbrev pub point_of : (ℕ → Bool) → List (Number V) → V → (ℕ → V) → Point V
+  point_of given values temperature unknowns = record {
     parameters = λ p. get_or values p (no_value o);
-    given = λ p. is_some (given_to_instance settings p);
+    given = given;
     temperature = temperature;
     unknowns = unknowns;
   }
@@ -164,7 +172,7 @@ abbrev pub answer : {V : Type 0} → Elaborated → Operations V → Settings V 
 answer M o settings temperature unknowns n = do
   model ← model_level M o settings
   instance ← instance_level M o settings
-  evaluated_after M (in_parts o (point_of M o settings instance.values temperature unknowns) n) model instance
+  evaluated_after M (in_parts o (point_of M o (was_given M o settings) instance.values temperature unknowns) n) model instance
 
 -- the collapse flags: the marks of the collapsing branches
 abbrev pub collapse_flags : {V : Type 0} → Elaborated → State V → List Bool

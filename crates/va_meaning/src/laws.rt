@@ -5,7 +5,7 @@
 ghost use Rattle.alg_laws.specs.AtFour.{AtFour, AtThree};
 ghost use Rattle.va_meaning.specs.CycleLaws.{DepthsInModules};
 ghost use Rattle.va_meaning.specs.EvaluationLaws.{BoundsOfEvaluations, DepthsOfFunctions, FixedOfEvaluations, LiftsOfEvaluations, MainsOfEvaluations, MainsOfParts, ValidityOfEvaluations};
-ghost use Rattle.va_meaning.specs.SetUpLaws.{PointsOfSetUps};
+ghost use Rattle.va_meaning.specs.SetUpLaws.{ErrorsOfSetUps, LiftsOfSetUps, MainsOfSetUps, PointsOfSetUps};
 ghost use Rattle.va_meaning.specs.TypeLaws.{TypesOfValues};
 
 use alg_laws::Algebra;
@@ -57,7 +57,24 @@ pub fn types_of_values<A: Algebra>(_law: PhantomData<A>)
     ensures { AtFour A.ops A.valid TypesOfValues }
 {}
 
-/// From valid settings of the right types set-up makes a valid point, at which each parameter has a value of its type.
+/// From valid settings of the right types both levels of set-up have valid values of the right types, one for each parameter, and
+/// the instance has a valid point with these types.
 pub fn points_of_set_ups<A: Algebra>(_law: PhantomData<A>)
     ensures { AtFour A.ops A.valid PointsOfSetUps }
+{}
+
+/// On both levels of set-up the errors are, in order of declaration, the parameters whose values break one of their ranges.
+pub fn errors_of_set_ups<A: Algebra>(_law: PhantomData<A>)
+    ensures { AtFour A.ops A.valid ErrorsOfSetUps }
+{}
+
+/// Over dual numbers both levels of set-up have the mains that they have below and the same errors, and are undefined for the same
+/// reason.
+pub fn mains_of_set_ups<A: Algebra>(_law: PhantomData<A>)
+    ensures { AtThree A.ops A.valid MainsOfSetUps }
+{}
+
+/// Over dual numbers, where no setting moves, no value of set-up moves.
+pub fn lifts_of_set_ups<A: Algebra>(_law: PhantomData<A>)
+    ensures { AtThree A.ops A.valid LiftsOfSetUps }
 {}

@@ -24,7 +24,7 @@ module _ (types : Typing) (a : Analysis) where
   timed = is_timed a.meaning a.timed
 
   -- an expression beside which a factor may be timed: a fixed one that isn't timed itself
-  abbrev is_plain : Expression → Bool
+  abbrev pub is_plain : Expression → Bool
   is_plain e = not (biased e) && not (timed e)
 
   abbrev unless_plain : Expression → Expression → List Expression
@@ -45,7 +45,7 @@ module _ (types : Typing) (a : Analysis) where
   strict_operand Not operand = operand ∷ []
 
   -- The parts of an expression that may not be timed. Of `?:` it is the condition. The argument of `ddt` has a rule of its own.
-  abbrev strict_parts : Expression → List Expression
+  abbrev pub strict_parts : Expression → List Expression
   strict_parts (literal at value integer) = []
   strict_parts (infinity at) = []
   strict_parts (name at bytes) = []
@@ -56,7 +56,7 @@ module _ (types : Typing) (a : Analysis) where
   strict_parts (call at callee bytes args) =
       if is_ddt (a.meaning at) then [] else arguments_of_call callee bytes args
 
-  abbrev is_integer_variable : Option Meaning → Bool
+  abbrev pub is_integer_variable : Option Meaning → Bool
   is_integer_variable (Some (means.Var variable)) = is_integer (get_or types.variables variable Real)
   is_integer_variable _ = false
 
@@ -67,7 +67,7 @@ module _ (types : Typing) (a : Analysis) where
   may_be_timed tested = false
   may_be_timed initial = false
 
-  abbrev strict_value : Value → List Expression
+  abbrev pub strict_value : Value → List Expression
   strict_value v = if may_be_timed v.purpose then [] else v.expression ∷ []
 
   -- a timed expression at a place where none may stand
@@ -81,15 +81,15 @@ module _ (types : Typing) (a : Analysis) where
   is_right_side initial = false
 
   -- the arms of `?:` under a biased condition
-  abbrev biased_arms : Expression → List Expression
+  abbrev pub biased_arms : Expression → List Expression
   biased_arms (choose at test first second) = if biased test then first ∷ second ∷ [] else []
   biased_arms _ = []
 
   -- right sides under some condition that is biased, and those in loops
-  abbrev biased_right_side : Value → List Expression
+  abbrev pub biased_right_side : Value → List Expression
   biased_right_side v = if is_right_side v.purpose && list_any biased v.around.conditions then v.expression ∷ [] else []
 
-  abbrev looped_right_side : Value → List Expression
+  abbrev pub looped_right_side : Value → List Expression
   looped_right_side v = if is_right_side v.purpose && v.around.in_loop then v.expression ∷ [] else []
 
   -- a timed right side, or a timed arm of `?:`, under a biased condition
@@ -100,7 +100,7 @@ module _ (types : Typing) (a : Analysis) where
   abbrev pub ddt_in_loop : List ℕ
   ddt_in_loop = map at_of (filter timed (flat_map looped_right_side a.values))
 
-  abbrev arguments_of_ddt : Expression → List Expression
+  abbrev pub arguments_of_ddt : Expression → List Expression
   arguments_of_ddt (call at callee bytes args) =
       if is_ddt (a.meaning at) then arguments_of_call callee bytes args else []
   arguments_of_ddt _ = []

@@ -13,4 +13,6 @@ returns c = record {
   load_first = refl;
   late_setting = refl;
   no_set_up = refl;
+  its_own = refl;
+  of_the_model = refl;
 }

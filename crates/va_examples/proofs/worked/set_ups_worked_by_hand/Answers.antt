@@ -18,4 +18,5 @@ returns c = record {
   given_on_the_model = refl;
   was_not_given = refl;
   was_given = refl;
+  moves_ungiven = refl;
 }
