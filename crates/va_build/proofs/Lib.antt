@@ -21,3 +21,8 @@ pub mod SizeLinks
 pub mod SizeScan
 pub mod SizeTrees
 pub mod SizeFaults
+pub mod TreesBelow
+pub mod OrderedExpressions
+pub mod OrderedStatements
+pub mod OrderedItems
+pub mod OrderedText

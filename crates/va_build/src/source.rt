@@ -1,10 +1,12 @@
 //! From a parse tree to the source tree.
-ghost use Rattle.std.specs.Prelude.{◌≡◌, IfOk, IsErrOf};
+ghost use Rattle.std.specs.Prelude.{◌≡◌, IfOk, IsErrOf, length};
 ghost use Rattle.predict.specs.Sentence.{IsParsed};
 ghost use Rattle.va_base.specs.declared.fault.Fault.{Fault};
 ghost use Rattle.va_base.specs.Expansion.{IsExpanded};
 ghost use Rattle.va_grammar.specs.Kinds.{kinds_of};
 ghost use Rattle.va_grammar.specs.Sets.{va_rules};
+ghost use Rattle.va_tree.specs.OwnTokens.{EachNameHasItsToken};
+ghost use Rattle.va_tree.specs.OrderedNames.{HasNamesInOrder};
 ghost use Rattle.va_build.specs.SourceOf.{IsSourceOf, IsSourceWithinSize, IsSourceFaulty};
 
 use crate::read_source::read_source;
@@ -47,11 +49,14 @@ impl From<NoMemory> for TreeErr {
 /// The source that a parse tree stands for, where it is within the limits of size.
 ///
 /// The tree is the parse tree of the kinds of `e`. `Ok` comes only where no fault of size stands; of several faults the
-/// first is answered: by token, and at one token `TooDeep` before `TooLong` before `ModulesMany`.
+/// first is answered: by token, and at one token `TooDeep` before `TooLong` before `ModulesMany`. Of the source in `Ok` each
+/// name stands at a token of its own, and the names in the order of the text have ascending indices below the number of tokens.
 pub fn build(alloc: Global, tree: &ParseTree, e: &Expanded) -> Result<Source, TreeErr>
     requires expanded { IsExpanded e.now }
     requires parsed { IsParsed va_rules (kinds_of e.now) tree.now }
     ensures source { IfOk result (λ s. IsSourceWithinSize e.now s) }
+    ensures own_tokens { IfOk result (λ s. EachNameHasItsToken s) }
+    ensures text_order { IfOk result (λ s. HasNamesInOrder s (length e.now.tokens)) }
     ensures fault { (f : Fault) → IsErrOf result (TreeErr.Fault f) → IsSourceFaulty e.now f }
 {
     let found = size_fault(alloc, tree, e)?;

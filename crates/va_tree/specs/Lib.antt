@@ -8,5 +8,6 @@ pub mod Preorder
 pub mod Size
 pub mod StatementLaws
 pub mod Statements
+pub mod OrderedNames
 pub mod Worked
 pub mod DepthLimit

@@ -1,6 +1,6 @@
 -- The tokens of a text's names, in the order of the tree: of all names, whether declared, used or given to an attribute. A keyword
 -- is no name but `inf`, which stands in expressions as a name does; nor is a string one.
-use Rattle.std.specs.Prelude.{◌≡◌, ℕ, List, [], ◌∷◌, ◌++◌, Option, Some, None, map, flat_map, option_to_list, slice_get}
+use Rattle.std.specs.Prelude.{◌≡◌, ℕ, List, [], ◌∷◌, ◌++◌, Some, map, flat_map, option_to_list, slice_get}
 use Rattle.va_tree.specs.declared.expr.Arg.{Arg}
 use Rattle.va_tree.specs.declared.expr.Arg.TheVariants as arg
 use Rattle.va_tree.specs.declared.name.NameAt.{NameAt}

@@ -10,11 +10,13 @@ use Rattle.va_tree.specs.declared.expr.Expr.{Literal}
 use Rattle.va_tree.specs.declared.module.Declaration.{Declaration}
 use Rattle.va_tree.specs.declared.module.Variable.{Variable}
 use Rattle.va_tree.specs.declared.module.Ty.TheVariants.{Real}
-use Rattle.va_tree.specs.Expressions.{Expression, literal, unary, binary, no_more, text_then, expression_then}
+use Rattle.va_tree.specs.Expressions.{Expression, literal, name, unary, binary, no_more, text_then, expression_then}
 use Rattle.va_tree.specs.Statements.{Statement, null, assign, only_if, if_else, cases, for_loop, block, task, no_more as no_statement, statement_then, no_items, item_then, no_defaults, default_then}
 use Rattle.va_tree.specs.Nodes.{node, nodes_of_statement}
 use Rattle.va_tree.specs.Preorder.{expressions_of_statement}
 use Rattle.va_tree.specs.Size.{counted_len}
+use Rattle.va_tree.specs.OrderedNames.{ordered_in_statement}
+use Rattle.va_tree.specs.OwnTokens.{names_in_statement}
 
 abbrev pub number_one : Decimal
 number_one = record { mantissa = 1; power = pos 0 }
@@ -54,6 +56,10 @@ declaration = record { at = 3; ty = Real; variables = (let v : Variable = record
 abbrev pub labelled : Statement
 labelled = block 0 (Some (named 2)) (declaration ∷ []) (statement_then (null 8) no_statement)
 
+-- case (x) default : $strobe("t", x); x : ; endcase
+abbrev pub case_of_names : Statement
+case_of_names = cases 0 (name 2 []) (item_then 13 (name 13 [] ∷ []) (null 15) no_items) (default_then 4 (task 6 [] (text_then (named 8) (expression_then (name 10 []) no_more))) no_defaults)
+
 pub record WorkedNodes : Type 0 where
   -- the operand that binds closer is deeper
   pub precedence : nodes_of_statement 1 sum_and_product ≡ node 0 1 ∷ node 2 2 ∷ node 2 3 ∷ node 4 3 ∷ node 4 4 ∷ node 6 4 ∷ []
@@ -74,3 +80,14 @@ pub record WorkedNodes : Type 0 where
   pub escaped_word : counted_len Word (codes "\\abc") ≡ 3
   pub string : counted_len Text (codes "\"a\\n\"") ≡ 3
   pub system_name : counted_len System (codes "$abc") ≡ 0
+
+-- The tokens of names in the order of the text.
+pub record WorkedOrder : Type 0 where
+  -- both assignments in the head of a `for`; numerals and signs are no names
+  pub head_of_for : ordered_in_statement counting ≡ 2 ∷ 8 ∷ []
+  -- a label and a variable
+  pub block_with_variable : ordered_in_statement labelled ≡ 2 ∷ 4 ∷ []
+  -- a default comes where it stands: case (x) default : $strobe("t", x); x : ; endcase
+  pub default_where_it_stands : ordered_in_statement case_of_names ≡ 2 ∷ 6 ∷ 10 ∷ 13 ∷ []
+  -- and last in the order of the tree
+  pub default_last_in_tree : names_in_statement case_of_names ≡ 2 ∷ 13 ∷ 6 ∷ 10 ∷ []
