@@ -4,6 +4,8 @@ pub mod Covering
 pub mod Earliest
 pub mod Entering
 pub mod FirstOfEach
+pub mod Influenced
+pub mod InfluenceWalk
 pub mod KindsFound
 pub mod LookedAtArguments
 pub mod MeaningTable
@@ -14,7 +16,6 @@ pub mod OneFault
 pub mod Places
 pub mod RuleLaws
 pub mod ScopesKept
-pub mod Sets
 pub mod SitesKept
 pub mod SomeKind
 pub mod SortedOnce
