@@ -27,7 +27,7 @@ use Rattle.va_sem.specs.rules.Values.{assigned, contributed, tested, initial, Ar
 use Rattle.va_sem.proofs.Visiting.{biased_answer, test_found, plain_found, any_of_all, visits_nothing, visits_then, declared_parts, tests_parts}
 use Rattle.va_sem.proofs.Walks.{found_then}
 
-split : (around : Around) (s : Statement) → values_in around s ≡ own_values around s ++ inner_values s (around_inner s around)
+pub split : (around : Around) (s : Statement) → values_in around s ≡ own_values around s ++ inner_values s (around_inner s around)
 split around (null at) = refl
 split around (block at label declarations body) = refl
 split around (only_if at test a) = refl
@@ -43,7 +43,7 @@ split around (assign at target value) = refl
 split around (contribute at access first second value) = refl
 split around (task at bytes args) = refl
 
-if_inner : (around : Around) (at : ℕ) (t : Expression) (a : Statement) (other : Option Stmt)
+pub if_inner : (around : Around) (at : ℕ) (t : Expression) (a : Statement) (other : Option Stmt)
     → inner_values (if_of at t a other) around ≡ values_in around a ++ values_in_else around other
 if_inner around at t a None = sym (append-nil (values_in around a))
 if_inner around at t a (Some b) = refl

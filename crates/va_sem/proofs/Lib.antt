@@ -8,6 +8,8 @@ pub mod Earliest
 pub mod Entering
 pub mod FirstOfEach
 pub mod FoundFirst
+pub mod Influenced
+pub mod InfluenceWalk
 pub mod KindsFound
 pub mod LeastByParts
 pub mod LookedAtArguments
@@ -22,7 +24,6 @@ pub mod RuleLaws
 pub mod ScopesByName
 pub mod ScopesKept
 pub mod ScopesOf
-pub mod Sets
 pub mod SitesKept
 pub mod SomeKind
 pub mod SortedOnce

@@ -4,6 +4,7 @@ pub mod BranchKinds
 pub mod Dependence
 pub mod Faults
 pub mod Findings
+pub mod Influence
 pub mod Limits
 pub mod ModuleBody
 pub mod ModuleTables

@@ -115,7 +115,7 @@ fn read_name(
 }
 
 /// How many of the arguments of a call are looked at: so many from the first on.
-fn count_looked_at(callee: Callee, name: &Name, args: &[Arg]) -> usize
+pub fn count_looked_at(callee: Callee, name: &Name, args: &[Arg]) -> usize
     ensures { looked_at_in_arguments (call_looks callee name.now) 0 (arguments_of args.now) ≡ looked_at_first result args.now }
 {
     match callee {

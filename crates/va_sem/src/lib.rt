@@ -9,6 +9,7 @@ pub mod checked;
 mod contributions;
 mod coverage;
 mod findings;
+mod influence;
 pub mod kinds;
 pub mod laws;
 pub mod names;

@@ -28,8 +28,8 @@ pub struct Survey {
     pub givens: Vec<Given>,
 }
 
-/// Walks over the statements of a module until no more variables are found biased.
-pub fn survey_module(alloc: Global, m: &Module, names: &ModuleNames) -> Result<Survey, AllocError>
+/// Finds the biased variables of a module, and walks over its statements.
+pub fn survey_module(alloc: Global, m: &Module, names: &ModuleNames) -> Result<Survey, NoMemory>
     ensures { IfOk result (IsSurvey names.now m.now) }
 {
     let items = m.items.as_list();

@@ -1,0 +1,14 @@
+pub mod Steps
+pub mod Filling
+pub mod Counting
+pub mod Laying
+pub mod Here
+pub mod Reached
+pub mod Spreading
+pub mod RowLists
+pub mod Walking
+pub mod Marking
+pub mod Turned
+pub mod Gathering
+pub mod Returning
+pub mod OnCycle
