@@ -5,7 +5,7 @@
 ghost use Rattle.std.specs.Prelude.{IfOk};
 ghost use Rattle.c_raw.specs.Blocks.{at_view};
 ghost use Rattle.c_raw_build.specs.Reading.{Reads};
-ghost use Rattle.c_raw_build.specs.RawAtoms.{ty_of, number_of_tree, number as number_lem, field as field_lem, named_field as named_field_lem, cell as cell_lem, placed_cell as placed_cell_lem, node_number as node_number_lem, atom_of, placed_atom as placed_atom_lem, callee_of, operator_of};
+ghost use Rattle.c_raw_build.specs.RawAtoms as raw;
 
 use crate::reader::Reader;
 use crate::row;
@@ -17,7 +17,7 @@ use std::alloc::AllocError;
 
 /// `double` or `int32_t`.
 pub(crate) fn ty(reader: &mut Reader<'_>) -> Result<Ty, AllocError>
-    ensures { IfOk result (λ v. Reads ty_of reader.old reader.new v) }
+    ensures { IfOk result (λ v. Reads raw.ty_of reader.old reader.new v) }
 {
     let row = reader.row()?;
     reader.pass(1)?;
@@ -30,7 +30,7 @@ pub(crate) fn ty(reader: &mut Reader<'_>) -> Result<Ty, AllocError>
 
 /// A number, as `3u` or `3`.
 pub(crate) fn number(text: &Text<'_>, reader: &mut Reader<'_>) -> Result<u32, AllocError>
-    ensures { IfOk result (λ v. Reads (number_of_tree text.now) reader.old reader.new v) }
+    ensures { IfOk result (λ v. Reads (raw.number_of_tree text.now) reader.old reader.new v) }
 {
     let row = reader.row()?;
     let value = text.number(reader.at())?;
@@ -49,7 +49,7 @@ pub(crate) fn number(text: &Text<'_>, reader: &mut Reader<'_>) -> Result<u32, Al
 
 /// A number, with the index of its token.
 pub(crate) fn placed_number(text: &Text<'_>, reader: &mut Reader<'_>) -> Result<At<u32>, AllocError>
-    ensures { IfOk result (λ v. Reads (number_lem text.now) reader.old reader.new (at_view v)) }
+    ensures { IfOk result (λ v. Reads (raw.number text.now) reader.old reader.new (at_view v)) }
 {
     let at = reader.at();
     let value = number(text, reader)?;
@@ -58,7 +58,7 @@ pub(crate) fn placed_number(text: &Text<'_>, reader: &mut Reader<'_>) -> Result<
 
 /// A field's name.
 pub(crate) fn field(text: &Text<'_>, reader: &mut Reader<'_>) -> Result<CField, AllocError>
-    ensures { IfOk result (λ v. Reads (field_lem text.now) reader.old reader.new v) }
+    ensures { IfOk result (λ v. Reads (raw.field text.now) reader.old reader.new v) }
 {
     let row = reader.row()?;
     let value = text.field(reader.at())?;
@@ -75,7 +75,7 @@ pub(crate) fn named_field(
     text: &Text<'_>,
     reader: &mut Reader<'_>,
 ) -> Result<At<CField>, AllocError>
-    ensures { IfOk result (λ v. Reads (named_field_lem text.now) reader.old reader.new (at_view v)) }
+    ensures { IfOk result (λ v. Reads (raw.named_field text.now) reader.old reader.new (at_view v)) }
 {
     let at = reader.at();
     let value = field(text, reader)?;
@@ -84,7 +84,7 @@ pub(crate) fn named_field(
 
 /// A cell, as `inst -> p1`.
 pub(crate) fn cell(text: &Text<'_>, reader: &mut Reader<'_>) -> Result<CCell, AllocError>
-    ensures { IfOk result (λ v. Reads (cell_lem text.now) reader.old reader.new v) }
+    ensures { IfOk result (λ v. Reads (raw.cell text.now) reader.old reader.new v) }
 {
     let row = reader.row()?;
     reader.pass(2)?;
@@ -104,7 +104,7 @@ pub(crate) fn cell(text: &Text<'_>, reader: &mut Reader<'_>) -> Result<CCell, Al
 
 /// A cell, with the index of its first token.
 pub(crate) fn placed_cell(text: &Text<'_>, reader: &mut Reader<'_>) -> Result<At<CCell>, AllocError>
-    ensures { IfOk result (λ v. Reads (placed_cell_lem text.now) reader.old reader.new (at_view v)) }
+    ensures { IfOk result (λ v. Reads (raw.placed_cell text.now) reader.old reader.new (at_view v)) }
 {
     let at = reader.at();
     let value = cell(text, reader)?;
@@ -113,7 +113,7 @@ pub(crate) fn placed_cell(text: &Text<'_>, reader: &mut Reader<'_>) -> Result<At
 
 /// The number of an unknown, in `inst -> node [ 1u ]`.
 pub(crate) fn node_number(text: &Text<'_>, reader: &mut Reader<'_>) -> Result<u32, AllocError>
-    ensures { IfOk result (λ v. Reads (node_number_lem text.now) reader.old reader.new v) }
+    ensures { IfOk result (λ v. Reads (raw.node_number text.now) reader.old reader.new v) }
 {
     reader.take(row::NODE)?;
     reader.pass(4)?;
@@ -124,7 +124,7 @@ pub(crate) fn node_number(text: &Text<'_>, reader: &mut Reader<'_>) -> Result<u3
 
 /// An atom.
 pub(crate) fn atom(text: &Text<'_>, reader: &mut Reader<'_>) -> Result<CAtom, AllocError>
-    ensures { IfOk result (λ v. Reads (atom_of text.now) reader.old reader.new v) }
+    ensures { IfOk result (λ v. Reads (raw.atom_of text.now) reader.old reader.new v) }
 {
     let row = reader.row()?;
     let at = reader.at();
@@ -164,7 +164,7 @@ pub(crate) fn atom(text: &Text<'_>, reader: &mut Reader<'_>) -> Result<CAtom, Al
 
 /// An atom, with the index of its first token.
 pub(crate) fn placed_atom(text: &Text<'_>, reader: &mut Reader<'_>) -> Result<At<CAtom>, AllocError>
-    ensures { IfOk result (λ v. Reads (placed_atom_lem text.now) reader.old reader.new (at_view v)) }
+    ensures { IfOk result (λ v. Reads (raw.placed_atom text.now) reader.old reader.new (at_view v)) }
 {
     let at = reader.at();
     let value = atom(text, reader)?;
@@ -173,7 +173,7 @@ pub(crate) fn placed_atom(text: &Text<'_>, reader: &mut Reader<'_>) -> Result<At
 
 /// What is called.
 pub(crate) fn callee(text: &Text<'_>, reader: &mut Reader<'_>) -> Result<CCallee, AllocError>
-    ensures { IfOk result (λ v. Reads (callee_of text.now) reader.old reader.new v) }
+    ensures { IfOk result (λ v. Reads (raw.callee_of text.now) reader.old reader.new v) }
 {
     let row = reader.row()?;
     let at = reader.at();
@@ -193,7 +193,7 @@ pub(crate) fn callee(text: &Text<'_>, reader: &mut Reader<'_>) -> Result<CCallee
 
 /// An operator between two operands.
 pub(crate) fn operator(reader: &mut Reader<'_>) -> Result<COperator, AllocError>
-    ensures { IfOk result (λ v. Reads operator_of reader.old reader.new v) }
+    ensures { IfOk result (λ v. Reads raw.operator_of reader.old reader.new v) }
 {
     let row = reader.row()?;
     reader.pass(1)?;

@@ -4,7 +4,7 @@ ghost use Rattle.c_raw.specs.Blocks.{block_view, is_body};
 ghost use Rattle.c_raw_build.specs.RawBodies.{body_block};
 ghost use Rattle.c_raw_build.specs.Placed.{Placed};
 ghost use Rattle.c_raw_build.specs.Reading.{Reads};
-ghost use Rattle.c_raw_build.specs.Steps.{ReadsHead, before_more, statements as statements_lem, opened, innermost_first};
+ghost use Rattle.c_raw_build.specs.Steps as steps;
 ghost use Rattle.c_raw_build.specs.Words.{CText};
 
 use crate::atoms::placed_atom;
@@ -23,7 +23,7 @@ pub(crate) fn statements(
     text: &Text<'_>,
     reader: &mut Reader<'_>,
 ) -> Result<Vec<RawStatement>, AllocError>
-    ensures { IfOk result (λ v. Reads (statements_lem text.now) reader.old reader.new (before_more v.items)) }
+    ensures { IfOk result (λ v. Reads (steps.statements text.now) reader.old reader.new (steps.before_more v.items)) }
 {
     let mut list = Vec::new(alloc);
     let mut between = Vec::new(alloc);
@@ -48,7 +48,7 @@ pub(crate) fn statements(
 
 /// A statement up to its first block.
 fn head(alloc: Global, text: &Text<'_>, reader: &mut Reader<'_>) -> Result<RawStatement, AllocError>
-    ensures { IfOk result (λ s. ReadsHead text.now reader.old reader.new s) }
+    ensures { IfOk result (λ s. steps.ReadsHead text.now reader.old reader.new s) }
 {
     match reader.next_row() {
         Some(row::IF) => if_head(text, reader),
@@ -66,7 +66,7 @@ fn simple_head(
     text: &Text<'_>,
     reader: &mut Reader<'_>,
 ) -> Result<RawStatement, AllocError>
-    ensures { IfOk result (λ s. ReadsHead text.now reader.old reader.new s) }
+    ensures { IfOk result (λ s. steps.ReadsHead text.now reader.old reader.new s) }
 {
     let statement = simple(alloc, text, reader)?;
     Ok(RawStatement::Simple(statement))
@@ -74,7 +74,7 @@ fn simple_head(
 
 /// `for ( ; ; ) {`
 fn for_head(reader: &mut Reader<'_>) -> Result<RawStatement, AllocError>
-    ensures { IfOk result (λ s. (text : CText) → ReadsHead text reader.old reader.new s) }
+    ensures { IfOk result (λ s. (text : CText) → steps.ReadsHead text reader.old reader.new s) }
 {
     reader.take(row::FOR)?;
     reader.pass(6)?;
@@ -83,7 +83,7 @@ fn for_head(reader: &mut Reader<'_>) -> Result<RawStatement, AllocError>
 
 /// `if ( ! v1 ) { break ; }` or `if ( v1 ) {`
 fn if_head(text: &Text<'_>, reader: &mut Reader<'_>) -> Result<RawStatement, AllocError>
-    ensures { IfOk result (λ s. ReadsHead text.now reader.old reader.new s) }
+    ensures { IfOk result (λ s. steps.ReadsHead text.now reader.old reader.new s) }
 {
     reader.take(row::IF)?;
     let at = reader.at();
@@ -106,7 +106,7 @@ fn if_head(text: &Text<'_>, reader: &mut Reader<'_>) -> Result<RawStatement, All
 
 /// Adds the blocks that a statement opens, the innermost last.
 fn open_blocks(between: &mut Vec<u32>, statement: &RawStatement) -> Result<(), AllocError>
-    ensures { OnOk result (innermost_first between.new.items ≡ opened statement.now (innermost_first between.old.items)) }
+    ensures { OnOk result (steps.innermost_first between.new.items ≡ steps.opened statement.now (steps.innermost_first between.old.items)) }
 {
     match statement {
         RawStatement::If { .. } => {
@@ -123,8 +123,8 @@ fn open_blocks(between: &mut Vec<u32>, statement: &RawStatement) -> Result<(), A
 
 /// A body: its statements, and its end at this token.
 pub(crate) fn closed(list: Vec<RawStatement>, last: u32) -> Result<Vec<RawStatement>, AllocError>
-    ensures block { IfOk result (λ v. (text : CText) (p : Placed) → before_more list.items ≡ statements_lem text p → block_view v.items ≡ body_block text last p) }
-    ensures body { IfOk result (λ v. (text : CText) (p : Placed) → before_more list.items ≡ statements_lem text p → is_body v.items ≡ true) }
+    ensures block { IfOk result (λ v. (text : CText) (p : Placed) → steps.before_more list.items ≡ steps.statements text p → block_view v.items ≡ body_block text last p) }
+    ensures body { IfOk result (λ v. (text : CText) (p : Placed) → steps.before_more list.items ≡ steps.statements text p → is_body v.items ≡ true) }
 {
     let mut body = list;
     body.push(RawStatement::End { at: last })?;

@@ -2,7 +2,7 @@
 ghost use Rattle.std.specs.Prelude.{IfOk, map};
 ghost use Rattle.c_raw.specs.Views.{descriptor_view};
 ghost use Rattle.c_raw_build.specs.Reading.{Reads, ReadsElement};
-ghost use Rattle.c_raw_build.specs.RawTables.{descriptor as descriptor_lem, descriptors as descriptors_lem};
+ghost use Rattle.c_raw_build.specs.RawTables as raw;
 ghost use Rattle.c_raw_build.specs.RowNumbers.{descriptor_row};
 
 use crate::atoms::placed_number;
@@ -19,7 +19,7 @@ pub(crate) fn descriptors(
     text: &Text<'_>,
     reader: &mut Reader<'_>,
 ) -> Result<Vec<RawDescriptor>, AllocError>
-    ensures { IfOk result (λ v. Reads (descriptors_lem text.now) reader.old reader.new (map descriptor_view v.items)) }
+    ensures { IfOk result (λ v. Reads (raw.descriptors text.now) reader.old reader.new (map descriptor_view v.items)) }
 {
     let mut list = Vec::new(alloc);
     loop {
@@ -46,7 +46,7 @@ fn descriptor(
     text: &Text<'_>,
     reader: &mut Reader<'_>,
 ) -> Result<RawDescriptor, AllocError>
-    ensures { IfOk result (λ v. ReadsElement descriptor_row (descriptor_lem text.now) reader.old reader.new (descriptor_view v)) }
+    ensures { IfOk result (λ v. ReadsElement descriptor_row (raw.descriptor text.now) reader.old reader.new (descriptor_view v)) }
 {
     let first = reader.at();
     reader.pass(2)?;

@@ -5,7 +5,7 @@ ghost use Rattle.c_raw.specs.Blocks.{is_body};
 ghost use Rattle.c_raw.specs.Views.{function_view, access_view};
 ghost use Rattle.c_raw.specs.declared.file.RawFunction as spec_function;
 ghost use Rattle.c_raw_build.specs.Reading.{Reads, ReadsElement, next_tree};
-ghost use Rattle.c_raw_build.specs.RawFiles.{function as function_lem, functions as functions_lem, access as access_lem};
+ghost use Rattle.c_raw_build.specs.RawFiles as raw;
 ghost use Rattle.c_raw_build.specs.RowNumbers.{function_row};
 
 use crate::atoms::{placed_atom, ty};
@@ -25,7 +25,7 @@ fn function(
     text: &Text<'_>,
     reader: &mut Reader<'_>,
 ) -> Result<RawFunction, AllocError>
-    ensures read { IfOk result (λ v. ReadsElement function_row (function_lem text.now) reader.old reader.new (function_view v)) }
+    ensures read { IfOk result (λ v. ReadsElement function_row (raw.function text.now) reader.old reader.new (function_view v)) }
     ensures body { IfOk result (λ v. is_body v.body ≡ true) }
 {
     let result = ty(reader)?;
@@ -62,8 +62,8 @@ pub(crate) fn all_functions(
     text: &Text<'_>,
     reader: &mut Reader<'_>,
 ) -> Result<Functions, AllocError>
-    ensures read { IfOk result (λ v. Reads (functions_lem text.now) reader.old reader.new (map function_view v.functions.items)) }
-    ensures access { IfOk result (λ v. map access_view v.access.items ≡ access_lem text.now (next_tree reader.old)) }
+    ensures read { IfOk result (λ v. Reads (raw.functions text.now) reader.old reader.new (map function_view v.functions.items)) }
+    ensures access { IfOk result (λ v. map access_view v.access.items ≡ raw.access text.now (next_tree reader.old)) }
     ensures bodies { IfOk result (λ v. list_all (λ f. is_body (spec_function.RawFunction.body f)) v.functions.items ≡ true) }
 {
     let mut list = Vec::new(alloc);

@@ -2,8 +2,8 @@
 ghost use Rattle.std.specs.Prelude.{◌≡◌, IfOk, map};
 ghost use Rattle.c_raw.specs.Blocks.{at_view};
 ghost use Rattle.c_raw.specs.Views.{load_view, loads_view};
-ghost use Rattle.c_raw_build.specs.Reading.{Reads};
-ghost use Rattle.c_raw_build.specs.RawTables.{matrix_target as matrix_target_lem, target_of, sign_of, factor_of, placed_factor as placed_factor_lem, more_factors as more_factors_lem, load_statements as load_statements_lem, load_function as load_function_lem, loads as loads_lem};
+ghost use Rattle.c_raw_build.specs.Reading.{Reads, ReadsSecond};
+ghost use Rattle.c_raw_build.specs.RawTables as raw;
 
 use crate::atoms::{field, node_number, number};
 use crate::headers::instance;
@@ -17,7 +17,7 @@ use va_base::Items;
 
 /// The matrix's place for an entry, in `* inst -> jr [ 1u ]`.
 fn matrix_target(text: &Text<'_>, reader: &mut Reader<'_>) -> Result<LoadTarget, AllocError>
-    ensures { IfOk result (λ v. Reads (matrix_target_lem text.now) reader.old reader.new v) }
+    ensures { IfOk result (λ v. Reads (raw.matrix_target text.now) reader.old reader.new v) }
 {
     let row = reader.row()?;
     reader.pass(2)?;
@@ -32,7 +32,7 @@ fn matrix_target(text: &Text<'_>, reader: &mut Reader<'_>) -> Result<LoadTarget,
 
 /// Where a load adds.
 fn target(text: &Text<'_>, reader: &mut Reader<'_>) -> Result<LoadTarget, AllocError>
-    ensures { IfOk result (λ v. Reads (target_of text.now) reader.old reader.new v) }
+    ensures { IfOk result (λ v. Reads (raw.target_of text.now) reader.old reader.new v) }
 {
     match reader.row()? {
         row::NODE_TARGET => {
@@ -52,7 +52,7 @@ fn target(text: &Text<'_>, reader: &mut Reader<'_>) -> Result<LoadTarget, AllocE
 
 /// `=`, `+=` or `-=`.
 fn sign(reader: &mut Reader<'_>) -> Result<LoadSign, AllocError>
-    ensures { IfOk result (λ v. Reads sign_of reader.old reader.new v) }
+    ensures { IfOk result (λ v. Reads raw.sign_of reader.old reader.new v) }
 {
     let row = reader.row()?;
     reader.pass(1)?;
@@ -66,7 +66,7 @@ fn sign(reader: &mut Reader<'_>) -> Result<LoadSign, AllocError>
 
 /// A factor.
 fn factor(text: &Text<'_>, reader: &mut Reader<'_>) -> Result<LoadFactor, AllocError>
-    ensures { IfOk result (λ v. Reads (factor_of text.now) reader.old reader.new v) }
+    ensures { IfOk result (λ v. Reads (raw.factor_of text.now) reader.old reader.new v) }
 {
     match reader.row()? {
         row::ALPHA => {
@@ -90,7 +90,7 @@ fn factor(text: &Text<'_>, reader: &mut Reader<'_>) -> Result<LoadFactor, AllocE
 
 /// A factor, with the index of its first token.
 fn placed_factor(text: &Text<'_>, reader: &mut Reader<'_>) -> Result<At<LoadFactor>, AllocError>
-    ensures { IfOk result (λ v. Reads (placed_factor_lem text.now) reader.old reader.new (at_view v)) }
+    ensures { IfOk result (λ v. Reads (raw.placed_factor text.now) reader.old reader.new (at_view v)) }
 {
     let at = reader.at();
     let value = factor(text, reader)?;
@@ -103,7 +103,7 @@ fn more_factors(
     text: &Text<'_>,
     reader: &mut Reader<'_>,
 ) -> Result<Vec<At<LoadFactor>>, AllocError>
-    ensures { IfOk result (λ v. Reads (more_factors_lem text.now) reader.old reader.new (map at_view v.items)) }
+    ensures { IfOk result (λ v. Reads (raw.more_factors text.now) reader.old reader.new (map at_view v.items)) }
 {
     let mut list = Vec::new(alloc);
     loop {
@@ -125,7 +125,7 @@ fn load_statements(
     text: &Text<'_>,
     reader: &mut Reader<'_>,
 ) -> Result<Vec<RawLoad>, AllocError>
-    ensures { IfOk result (λ v. Reads (load_statements_lem text.now) reader.old reader.new (map load_view v.items)) }
+    ensures { IfOk result (λ v. Reads (raw.load_statements text.now) reader.old reader.new (map load_view v.items)) }
 {
     let mut list = Vec::new(alloc);
     loop {
@@ -166,63 +166,56 @@ fn load(
     }
 }
 
+/// What stands behind the opening brace of a load function: the instance, the statements, and the closing brace.
+fn load_body(
+    alloc: Global,
+    text: &Text<'_>,
+    reader: &mut Reader<'_>,
+) -> Result<Vec<RawLoad>, AllocError>
+    ensures { IfOk result (λ v. ReadsSecond (raw.load_statements text.now) reader.old reader.new (map load_view v.items)) }
+{
+    instance(reader)?;
+    let list = load_statements(alloc, text, reader)?;
+    reader.pass(1)?;
+    Ok(list)
+}
+
 /// A load function.
 fn load_function(
     alloc: Global,
     text: &Text<'_>,
     reader: &mut Reader<'_>,
 ) -> Result<Vec<RawLoad>, AllocError>
-    ensures { IfOk result (λ v. Reads (load_function_lem text.now) reader.old reader.new (map load_view v.items)) }
+    ensures { IfOk result (λ v. Reads (raw.load_function text.now) reader.old reader.new (map load_view v.items)) }
 {
     match reader.row()? {
         row::RESIDUAL_RESIST => {
             reader.pass(17)?;
-            instance(reader)?;
-            let list = load_statements(alloc, text, reader)?;
-            reader.pass(1)?;
-            Ok(list)
+            load_body(alloc, text, reader)
         }
         row::RESIDUAL_REACT => {
             reader.pass(17)?;
-            instance(reader)?;
-            let list = load_statements(alloc, text, reader)?;
-            reader.pass(1)?;
-            Ok(list)
+            load_body(alloc, text, reader)
         }
         row::JACOBIAN_RESIST => {
             reader.pass(13)?;
-            instance(reader)?;
-            let list = load_statements(alloc, text, reader)?;
-            reader.pass(1)?;
-            Ok(list)
+            load_body(alloc, text, reader)
         }
         row::JACOBIAN_REACT => {
             reader.pass(16)?;
-            instance(reader)?;
-            let list = load_statements(alloc, text, reader)?;
-            reader.pass(1)?;
-            Ok(list)
+            load_body(alloc, text, reader)
         }
         row::JACOBIAN_TRAN => {
             reader.pass(16)?;
-            instance(reader)?;
-            let list = load_statements(alloc, text, reader)?;
-            reader.pass(1)?;
-            Ok(list)
+            load_body(alloc, text, reader)
         }
         row::SPICE_RHS_DC => {
             reader.pass(21)?;
-            instance(reader)?;
-            let list = load_statements(alloc, text, reader)?;
-            reader.pass(1)?;
-            Ok(list)
+            load_body(alloc, text, reader)
         }
         row::SPICE_RHS_TRAN => {
             reader.pass(24)?;
-            instance(reader)?;
-            let list = load_statements(alloc, text, reader)?;
-            reader.pass(1)?;
-            Ok(list)
+            load_body(alloc, text, reader)
         }
         _ => Err(AllocError),
     }
@@ -234,7 +227,7 @@ pub(crate) fn loads(
     text: &Text<'_>,
     reader: &mut Reader<'_>,
 ) -> Result<RawLoads, AllocError>
-    ensures { IfOk result (λ v. Reads (loads_lem text.now) reader.old reader.new (loads_view v)) }
+    ensures { IfOk result (λ v. Reads (raw.loads text.now) reader.old reader.new (loads_view v)) }
 {
     reader.take(row::LOADS)?;
     let residual_resist = load_function(alloc, text, reader)?;

@@ -3,7 +3,7 @@ ghost use Rattle.std.specs.Prelude.{◌≡◌, IfOk, true, map};
 ghost use Rattle.std.specs.List.{list_all};
 ghost use Rattle.c_raw.specs.Views.{module_view, module_has_bodies, file_view, has_bodies};
 ghost use Rattle.c_raw_build.specs.FileParts.{exports_view, exports_of};
-ghost use Rattle.c_raw_build.specs.RawFiles.{raw_module, modules as modules_lem, file as file_lem};
+ghost use Rattle.c_raw_build.specs.RawFiles as raw;
 ghost use Rattle.c_raw_build.specs.Reading.{Reads};
 
 use crate::atoms::placed_number;
@@ -23,7 +23,7 @@ use va_base::Items;
 
 /// A module.
 fn module(alloc: Global, text: &Text<'_>, reader: &mut Reader<'_>) -> Result<RawModule, AllocError>
-    ensures read { IfOk result (λ v. Reads (raw_module text.now) reader.old reader.new (module_view v)) }
+    ensures read { IfOk result (λ v. Reads (raw.raw_module text.now) reader.old reader.new (module_view v)) }
     ensures bodies { IfOk result (λ v. module_has_bodies v ≡ true) }
 {
     reader.take(row::MODULE)?;
@@ -60,7 +60,7 @@ fn all_modules(
     text: &Text<'_>,
     reader: &mut Reader<'_>,
 ) -> Result<Vec<RawModule>, AllocError>
-    ensures read { IfOk result (λ v. Reads (modules_lem text.now) reader.old reader.new (map module_view v.items)) }
+    ensures read { IfOk result (λ v. Reads (raw.modules text.now) reader.old reader.new (map module_view v.items)) }
     ensures bodies { IfOk result (λ v. list_all module_has_bodies v.items ≡ true) }
 {
     let mut list = Vec::new(alloc);
@@ -105,7 +105,7 @@ pub(crate) fn file(
     text: &Text<'_>,
     reader: &mut Reader<'_>,
 ) -> Result<RawFile, AllocError>
-    ensures read { IfOk result (λ v. Reads (file_lem text.now) reader.old reader.new (file_view v)) }
+    ensures read { IfOk result (λ v. Reads (raw.file text.now) reader.old reader.new (file_view v)) }
     ensures bodies { IfOk result (λ v. has_bodies v ≡ true) }
 {
     reader.take(row::FILE)?;

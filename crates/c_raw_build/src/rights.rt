@@ -2,7 +2,7 @@
 ghost use Rattle.std.specs.Prelude.{IfOk, map};
 ghost use Rattle.c_raw.specs.Blocks.{at_view, right_view};
 ghost use Rattle.c_raw_build.specs.Reading.{Reads};
-ghost use Rattle.c_raw_build.specs.RawAtoms.{values as values_lem, operation as operation_lem, conversion as conversion_lem, right_of};
+ghost use Rattle.c_raw_build.specs.RawAtoms as raw;
 
 use crate::atoms::{callee, operator, placed_atom};
 use crate::reader::Reader;
@@ -19,7 +19,7 @@ fn values(
     text: &Text<'_>,
     reader: &mut Reader<'_>,
 ) -> Result<Vec<At<CAtom>>, AllocError>
-    ensures { IfOk result (λ v. Reads (values_lem text.now) reader.old reader.new (map at_view v.items)) }
+    ensures { IfOk result (λ v. Reads (raw.values text.now) reader.old reader.new (map at_view v.items)) }
 {
     let mut list = Vec::new(alloc);
     loop {
@@ -46,7 +46,7 @@ fn operation(
     reader: &mut Reader<'_>,
     left: At<CAtom>,
 ) -> Result<RawRight, AllocError>
-    ensures { IfOk result (λ v. Reads (operation_lem text.now (at_view left)) reader.old reader.new (right_view v)) }
+    ensures { IfOk result (λ v. Reads (raw.operation text.now (at_view left)) reader.old reader.new (right_view v)) }
 {
     match reader.row()? {
         row::OPERATION => {
@@ -65,7 +65,7 @@ fn operation(
 
 /// A conversion, behind its first bracket.
 fn conversion(text: &Text<'_>, reader: &mut Reader<'_>) -> Result<RawRight, AllocError>
-    ensures { IfOk result (λ v. Reads (conversion_lem text.now) reader.old reader.new (right_view v)) }
+    ensures { IfOk result (λ v. Reads (raw.conversion text.now) reader.old reader.new (right_view v)) }
 {
     match reader.row()? {
         row::TO_REAL => {
@@ -89,7 +89,7 @@ pub(crate) fn right(
     text: &Text<'_>,
     reader: &mut Reader<'_>,
 ) -> Result<RawRight, AllocError>
-    ensures { IfOk result (λ v. Reads (right_of text.now) reader.old reader.new (right_view v)) }
+    ensures { IfOk result (λ v. Reads (raw.right_of text.now) reader.old reader.new (right_view v)) }
 {
     match reader.row()? {
         row::NEGATED => {

@@ -2,7 +2,7 @@
 ghost use Rattle.std.specs.Prelude.{◌≡◌, IfOk, true};
 ghost use Rattle.c_raw.specs.Blocks.{block_view, is_body};
 ghost use Rattle.c_raw_build.specs.Reading.{Reads};
-ghost use Rattle.c_raw_build.specs.RawFiles.{setup_model as setup_model_lem, setup_instance as setup_instance_lem, eval as eval_lem};
+ghost use Rattle.c_raw_build.specs.RawFiles as raw;
 
 use crate::bodies::{closed, statements};
 use crate::headers::{instance, model, reset};
@@ -18,7 +18,7 @@ pub(crate) fn setup_model(
     text: &Text<'_>,
     reader: &mut Reader<'_>,
 ) -> Result<Vec<RawStatement>, AllocError>
-    ensures read { IfOk result (λ v. Reads (setup_model_lem text.now) reader.old reader.new (block_view v.items)) }
+    ensures read { IfOk result (λ v. Reads (raw.setup_model text.now) reader.old reader.new (block_view v.items)) }
     ensures body { IfOk result (λ v. is_body v.items ≡ true) }
 {
     reader.take(row::SETUP_MODEL)?;
@@ -37,7 +37,7 @@ pub(crate) fn setup_instance(
     text: &Text<'_>,
     reader: &mut Reader<'_>,
 ) -> Result<Vec<RawStatement>, AllocError>
-    ensures read { IfOk result (λ v. Reads (setup_instance_lem text.now) reader.old reader.new (block_view v.items)) }
+    ensures read { IfOk result (λ v. Reads (raw.setup_instance text.now) reader.old reader.new (block_view v.items)) }
     ensures body { IfOk result (λ v. is_body v.items ≡ true) }
 {
     reader.take(row::SETUP_INSTANCE)?;
@@ -58,7 +58,7 @@ pub(crate) fn eval(
     text: &Text<'_>,
     reader: &mut Reader<'_>,
 ) -> Result<Vec<RawStatement>, AllocError>
-    ensures read { IfOk result (λ v. Reads (eval_lem text.now) reader.old reader.new (block_view v.items)) }
+    ensures read { IfOk result (λ v. Reads (raw.eval text.now) reader.old reader.new (block_view v.items)) }
     ensures body { IfOk result (λ v. is_body v.items ≡ true) }
 {
     reader.take(row::EVAL)?;

@@ -2,7 +2,7 @@
 ghost use Rattle.std.specs.Prelude.{◌≡◌, IfOk};
 ghost use Rattle.c_raw.specs.Blocks.{at_view, simple_view};
 ghost use Rattle.c_raw_build.specs.Reading.{Reads};
-ghost use Rattle.c_raw_build.specs.RawBodies.{declared as declared_lem, instance_target as instance_target_lem, set_target as set_target_lem};
+ghost use Rattle.c_raw_build.specs.RawBodies as raw;
 ghost use Rattle.c_raw_build.specs.Steps.{ReadsSimple};
 ghost use Rattle.c_raw_build.specs.SimpleParts.{target_view};
 ghost use Rattle.c_raw_build.specs.Words.{numbered_at};
@@ -78,7 +78,7 @@ fn first_value(
     ty: Ty,
     local: At<u32>,
 ) -> Result<RawSimple, AllocError>
-    ensures { IfOk result (λ v. Reads (declared_lem text.now ty (at_view local)) reader.old reader.new (simple_view v)) }
+    ensures { IfOk result (λ v. Reads (raw.declared text.now ty (at_view local)) reader.old reader.new (simple_view v)) }
 {
     match reader.row()? {
         row::FIRST_VALUE => {
@@ -159,7 +159,7 @@ enum Target {
 
 /// What stands behind `inst ->` where something is set.
 fn instance_target(text: &Text<'_>, reader: &mut Reader<'_>) -> Result<Target, AllocError>
-    ensures { IfOk result (λ v. Reads (instance_target_lem text.now) reader.old reader.new (target_view v)) }
+    ensures { IfOk result (λ v. Reads (raw.instance_target text.now) reader.old reader.new (target_view v)) }
 {
     match reader.row()? {
         row::FIELD_TARGET => {
@@ -178,7 +178,7 @@ fn instance_target(text: &Text<'_>, reader: &mut Reader<'_>) -> Result<Target, A
 
 /// The setting of a target behind the `inst` with this index.
 fn set_target(at: u32, target: Target, value: At<CAtom>) -> RawSimple
-    ensures { simple_view result ≡ set_target_lem at (target_view target) (at_view value) }
+    ensures { simple_view result ≡ raw.set_target at (target_view target) (at_view value) }
 {
     match target {
         Target::Field(field) => RawSimple::SetCell {

@@ -5,7 +5,7 @@ ghost use Rattle.c_raw.specs.Views.{field_view, argument_view, access_view, flag
 ghost use Rattle.c_raw_build.specs.Reading.{Reads, ReadsElement};
 ghost use Rattle.c_raw_build.specs.RowNumbers.{access_rows_row};
 ghost use Rattle.c_raw_build.specs.StructParts.{has_instance_test, structs_view, structs_of};
-ghost use Rattle.c_raw_build.specs.RawFiles.{fields as fields_lem, arguments as arguments_lem, flag as flag_lem, access_row as access_row_lem, access as access_lem};
+ghost use Rattle.c_raw_build.specs.RawFiles as raw;
 
 use crate::atoms::{placed_cell, placed_number, ty};
 use crate::reader::Reader;
@@ -21,7 +21,7 @@ pub(crate) fn fields(
     text: &Text<'_>,
     reader: &mut Reader<'_>,
 ) -> Result<Vec<RawField>, AllocError>
-    ensures { IfOk result (λ v. Reads (fields_lem text.now) reader.old reader.new (map field_view v.items)) }
+    ensures { IfOk result (λ v. Reads (raw.fields text.now) reader.old reader.new (map field_view v.items)) }
 {
     let mut list = Vec::new(alloc);
     loop {
@@ -46,7 +46,7 @@ pub(crate) fn arguments(
     text: &Text<'_>,
     reader: &mut Reader<'_>,
 ) -> Result<Vec<RawArgument>, AllocError>
-    ensures { IfOk result (λ v. Reads (arguments_lem text.now) reader.old reader.new (map argument_view v.items)) }
+    ensures { IfOk result (λ v. Reads (raw.arguments text.now) reader.old reader.new (map argument_view v.items)) }
 {
     let mut list = Vec::new(alloc);
     loop {
@@ -91,7 +91,7 @@ fn instance_test(reader: &mut Reader<'_>) -> Result<bool, AllocError>
 
 /// The flag that an access row sets.
 fn flag(text: &Text<'_>, reader: &mut Reader<'_>) -> Result<Option<At<CCell>>, AllocError>
-    ensures { IfOk result (λ v. Reads (flag_lem text.now) reader.old reader.new (flag_view v)) }
+    ensures { IfOk result (λ v. Reads (raw.flag text.now) reader.old reader.new (flag_view v)) }
 {
     match reader.row()? {
         row::FLAG_SETTING => {
@@ -111,7 +111,7 @@ pub(crate) fn access_rows(
     text: &Text<'_>,
     reader: &mut Reader<'_>,
 ) -> Result<Vec<RawAccess>, AllocError>
-    ensures { IfOk result (λ v. Reads (access_lem text.now) reader.old reader.new (map access_view v.items)) }
+    ensures { IfOk result (λ v. Reads (raw.access text.now) reader.old reader.new (map access_view v.items)) }
 {
     let mut list = Vec::new(alloc);
     loop {
@@ -128,7 +128,7 @@ pub(crate) fn access_rows(
 
 /// An access row, whose row was taken, up to those behind it.
 fn access_row(text: &Text<'_>, reader: &mut Reader<'_>) -> Result<RawAccess, AllocError>
-    ensures { IfOk result (λ v. ReadsElement access_rows_row (access_row_lem text.now) reader.old reader.new (access_view v)) }
+    ensures { IfOk result (λ v. ReadsElement access_rows_row (raw.access_row text.now) reader.old reader.new (access_view v)) }
 {
     reader.pass(4)?;
     let id = placed_number(text, reader)?;

@@ -2,7 +2,7 @@
 ghost use Rattle.std.specs.Prelude.{IfOk, map, Some, None};
 ghost use Rattle.c_raw.specs.Views.{node_view, entry_view, pair_view, param_view};
 ghost use Rattle.c_raw_build.specs.Reading.{Reads, ReadsElement};
-ghost use Rattle.c_raw_build.specs.RawTables.{node_row as node_row_lem, node_rows as node_rows_lem, second_node as second_node_lem, pair as pair_lem, react_pointer as react_pointer_lem, has_resist, has_react, entry_row as entry_row_lem, entry_rows as entry_rows_lem, pair_rows as pair_rows_lem, more_strings as more_strings_lem, is_integer_param as is_integer_param_lem, param_kind as param_kind_lem, param_row as param_row_lem, param_rows as param_rows_lem};
+ghost use Rattle.c_raw_build.specs.RawTables as raw;
 ghost use Rattle.c_raw_build.specs.RowNumbers.{node_row_row, entry_row_row, param_row_row};
 ghost use Rattle.c_raw_build.specs.TableParts.{has_and_react, parts_view, entry_parts, names_from, tables_view, tables_of};
 
@@ -21,7 +21,7 @@ pub(crate) fn node_rows(
     text: &Text<'_>,
     reader: &mut Reader<'_>,
 ) -> Result<Vec<RawNode>, AllocError>
-    ensures { IfOk result (λ v. Reads (node_rows_lem text.now) reader.old reader.new (map node_view v.items)) }
+    ensures { IfOk result (λ v. Reads (raw.node_rows text.now) reader.old reader.new (map node_view v.items)) }
 {
     let mut list = Vec::new(alloc);
     loop {
@@ -44,7 +44,7 @@ pub(crate) fn node_rows(
 
 /// A node, whose row was taken, up to the nodes behind it.
 fn node_row(alloc: Global, text: &Text<'_>, reader: &mut Reader<'_>) -> Result<RawNode, AllocError>
-    ensures { IfOk result (λ v. ReadsElement node_row_row (node_row_lem text.now) reader.old reader.new (node_view v)) }
+    ensures { IfOk result (λ v. ReadsElement node_row_row (raw.node_row text.now) reader.old reader.new (node_view v)) }
 {
     reader.pass(2)?;
     let name = text.string(alloc, reader.at())?;
@@ -71,7 +71,7 @@ fn node_row(alloc: Global, text: &Text<'_>, reader: &mut Reader<'_>) -> Result<R
 
 /// The second node of a pair: a number, or `UINT32_MAX`.
 fn second_node(text: &Text<'_>, reader: &mut Reader<'_>) -> Result<Option<u32>, AllocError>
-    ensures { IfOk result (λ v. Reads (second_node_lem text.now) reader.old reader.new v) }
+    ensures { IfOk result (λ v. Reads (raw.second_node text.now) reader.old reader.new v) }
 {
     match reader.row()? {
         row::SECOND_NODE => {
@@ -88,7 +88,7 @@ fn second_node(text: &Text<'_>, reader: &mut Reader<'_>) -> Result<Option<u32>, 
 
 /// A pair of nodes.
 fn pair(text: &Text<'_>, reader: &mut Reader<'_>) -> Result<RawPair, AllocError>
-    ensures { IfOk result (λ v. Reads (pair_lem text.now) reader.old reader.new (pair_view v)) }
+    ensures { IfOk result (λ v. Reads (raw.pair text.now) reader.old reader.new (pair_view v)) }
 {
     reader.take(row::PAIR)?;
     reader.pass(2)?;
@@ -104,7 +104,7 @@ fn pair(text: &Text<'_>, reader: &mut Reader<'_>) -> Result<RawPair, AllocError>
 
 /// Where the pointer to an entry's reactive part stands: the number of an element of `jq`, or `UINT32_MAX`.
 fn react_pointer(text: &Text<'_>, reader: &mut Reader<'_>) -> Result<Option<u32>, AllocError>
-    ensures { IfOk result (λ v. Reads (react_pointer_lem text.now) reader.old reader.new v) }
+    ensures { IfOk result (λ v. Reads (raw.react_pointer text.now) reader.old reader.new v) }
 {
     match reader.row()? {
         row::REACT_POINTER => {
@@ -170,7 +170,7 @@ pub(crate) fn entry_rows(
     text: &Text<'_>,
     reader: &mut Reader<'_>,
 ) -> Result<Vec<RawEntry>, AllocError>
-    ensures { IfOk result (λ v. Reads (entry_rows_lem text.now) reader.old reader.new (map entry_view v.items)) }
+    ensures { IfOk result (λ v. Reads (raw.entry_rows text.now) reader.old reader.new (map entry_view v.items)) }
 {
     let mut list = Vec::new(alloc);
     loop {
@@ -193,7 +193,7 @@ pub(crate) fn entry_rows(
 
 /// An entry, whose row was taken, up to the entries behind it.
 fn entry_row(text: &Text<'_>, reader: &mut Reader<'_>) -> Result<RawEntry, AllocError>
-    ensures { IfOk result (λ v. ReadsElement entry_row_row (entry_row_lem text.now) reader.old reader.new (entry_view v)) }
+    ensures { IfOk result (λ v. ReadsElement entry_row_row (raw.entry_row text.now) reader.old reader.new (entry_view v)) }
 {
     reader.pass(3)?;
     let pair = pair(text, reader)?;
@@ -217,7 +217,7 @@ pub(crate) fn pair_rows(
     text: &Text<'_>,
     reader: &mut Reader<'_>,
 ) -> Result<Vec<RawPair>, AllocError>
-    ensures { IfOk result (λ v. Reads (pair_rows_lem text.now) reader.old reader.new (map pair_view v.items)) }
+    ensures { IfOk result (λ v. Reads (raw.pair_rows text.now) reader.old reader.new (map pair_view v.items)) }
 {
     let mut list = Vec::new(alloc);
     loop {
@@ -266,7 +266,7 @@ fn names(
 
 /// Whether a parameter is an integer.
 fn is_integer_param(reader: &mut Reader<'_>) -> Result<bool, AllocError>
-    ensures { IfOk result (λ v. Reads is_integer_param_lem reader.old reader.new v) }
+    ensures { IfOk result (λ v. Reads raw.is_integer_param reader.old reader.new v) }
 {
     let row = reader.row()?;
     reader.pass(1)?;
@@ -279,7 +279,7 @@ fn is_integer_param(reader: &mut Reader<'_>) -> Result<bool, AllocError>
 
 /// Whose a parameter is.
 fn param_kind(reader: &mut Reader<'_>) -> Result<ParamKind, AllocError>
-    ensures { IfOk result (λ v. Reads param_kind_lem reader.old reader.new v) }
+    ensures { IfOk result (λ v. Reads raw.param_kind reader.old reader.new v) }
 {
     let row = reader.row()?;
     reader.pass(1)?;
@@ -297,7 +297,7 @@ pub(crate) fn param_rows(
     text: &Text<'_>,
     reader: &mut Reader<'_>,
 ) -> Result<Vec<RawParam>, AllocError>
-    ensures { IfOk result (λ v. Reads (param_rows_lem text.now) reader.old reader.new (map param_view v.items)) }
+    ensures { IfOk result (λ v. Reads (raw.param_rows text.now) reader.old reader.new (map param_view v.items)) }
 {
     let mut list = Vec::new(alloc);
     loop {
@@ -324,7 +324,7 @@ fn param_row(
     text: &Text<'_>,
     reader: &mut Reader<'_>,
 ) -> Result<RawParam, AllocError>
-    ensures { IfOk result (λ v. ReadsElement param_row_row (param_row_lem text.now) reader.old reader.new (param_view v)) }
+    ensures { IfOk result (λ v. ReadsElement param_row_row (raw.param_row text.now) reader.old reader.new (param_view v)) }
 {
     reader.pass(9)?;
     let first = reader.at();

@@ -1,13 +1,13 @@
 use Rattle.std.specs.Prelude.{◌≡◌, ◌++◌, true, length, map}
 use Rattle.std.specs.List.{list_all}
 use Rattle.c_raw.specs.Views.{module_view, module_has_bodies}
-use Rattle.c_raw_build.specs.RawFiles.{modules as modules_lem}
+use Rattle.c_raw_build.specs.RawFiles.{modules}
 use Rattle.c_raw_build.specs.Reading.{ReadsOn}
 use Rattle.c_raw_build.proofs.modules.all_modules.Given as goal
 
 abbrev pub invariant-loop-list : goal.invariant-loop-list
 invariant-loop-list l = record {
-  read : ReadsOn (λ p. map module_view l.list.items ++ modules_lem l.text p) (modules_lem l.text) l.initial.reader l.reader;
+  read : ReadsOn (λ p. map module_view l.list.items ++ modules l.text p) (modules l.text) l.initial.reader l.reader;
   bodies : list_all module_has_bodies l.list.items ≡ true;
 }
 

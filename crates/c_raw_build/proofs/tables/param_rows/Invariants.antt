@@ -1,11 +1,11 @@
 use Rattle.std.specs.Prelude.{◌++◌, length, map}
-use Rattle.c_raw_build.specs.RawTables.{param_rows as param_rows_lem}
+use Rattle.c_raw_build.specs.RawTables.{param_rows}
 use Rattle.c_raw.specs.Views.{param_view}
 use Rattle.c_raw_build.specs.Reading.{ReadsOn}
 use Rattle.c_raw_build.proofs.tables.param_rows.Given as goal
 
 abbrev pub invariant-loop-list : goal.invariant-loop-list
-invariant-loop-list l = ReadsOn (λ p. map param_view l.list.items ++ (param_rows_lem l.text) p) (param_rows_lem l.text) l.initial.reader l.reader
+invariant-loop-list l = ReadsOn (λ p. map param_view l.list.items ++ (param_rows l.text) p) (param_rows l.text) l.initial.reader l.reader
 
 abbrev pub decreases-loop-list : goal.decreases-loop-list
 decreases-loop-list l = length l.reader.nodes
