@@ -191,31 +191,38 @@ fn load_function(
     match reader.row()? {
         row::RESIDUAL_RESIST => {
             reader.pass(17)?;
-            load_body(alloc, text, reader)
+            let list = load_body(alloc, text, reader)?;
+            Ok(list)
         }
         row::RESIDUAL_REACT => {
             reader.pass(17)?;
-            load_body(alloc, text, reader)
+            let list = load_body(alloc, text, reader)?;
+            Ok(list)
         }
         row::JACOBIAN_RESIST => {
             reader.pass(13)?;
-            load_body(alloc, text, reader)
+            let list = load_body(alloc, text, reader)?;
+            Ok(list)
         }
         row::JACOBIAN_REACT => {
             reader.pass(16)?;
-            load_body(alloc, text, reader)
+            let list = load_body(alloc, text, reader)?;
+            Ok(list)
         }
         row::JACOBIAN_TRAN => {
             reader.pass(16)?;
-            load_body(alloc, text, reader)
+            let list = load_body(alloc, text, reader)?;
+            Ok(list)
         }
         row::SPICE_RHS_DC => {
             reader.pass(21)?;
-            load_body(alloc, text, reader)
+            let list = load_body(alloc, text, reader)?;
+            Ok(list)
         }
         row::SPICE_RHS_TRAN => {
             reader.pass(24)?;
-            load_body(alloc, text, reader)
+            let list = load_body(alloc, text, reader)?;
+            Ok(list)
         }
         _ => Err(AllocError),
     }
