@@ -16,8 +16,9 @@ use Rattle.c_law_print_parses.proofs.Lefts.{cell_left, field_name_left, right_le
 use Rattle.c_law_words.proofs.Listed.{row_list}
 use Rattle.c_law_words.proofs.Pieces.{◌▹◌}
 use Rattle.c_law_spelled.proofs.Rows.{IsOf, IsRow, sub, tok, by_rows, passes_map_map, elements_two_rows}
-use Rattle.c_law_spelled.proofs.Numbers.{unsigned_value, integer_value, real_value}
-use Rattle.c_law_spelled.proofs.Names.{name_value, function_value, field_value, temp_value, library_value}
+use Rattle.c_raw_build.proofs.Numbers.{unsigned_value, integer_value, real_value}
+use Rattle.c_raw_build.proofs.NameNumbers.{name_value, function_value}
+use Rattle.c_law_spelled.proofs.Names.{field_value, temp_value, library_value}
 
 -- the first token
 pub first_place : (n : ℕ) → n ≡ n + 0

@@ -18,7 +18,8 @@ use Rattle.c_law_print_parses.proofs.Lefts.{fields_left, functions_left, argumen
 use Rattle.c_law_words.proofs.Listed.{row_list}
 use Rattle.c_law_words.proofs.Pieces.{◌▹◌}
 use Rattle.c_law_spelled.proofs.Rows.{IsOf, IsRow, sub, behind, by_rows, passes_map_map, elements_rows, elements_two_rows, elements_before_rows}
-use Rattle.c_law_spelled.proofs.Names.{name_value, field_name_value}
+use Rattle.c_raw_build.proofs.NameNumbers.{name_value}
+use Rattle.c_law_spelled.proofs.Names.{field_name_value}
 use Rattle.c_law_spelled.proofs.Atoms.{first_place, number_spelled, field_spelled, cell_spelled, node_spelled, atom_spelled}
 use Rattle.c_law_spelled.proofs.Statements.{body_spelled}
 

@@ -1,9 +1,6 @@
 pub mod Rows
 pub mod Tokens
-pub mod WordKinds
-pub mod Numbers
 pub mod Names
-pub mod Strings
 pub mod Atoms
 pub mod Statements
 pub mod Functions

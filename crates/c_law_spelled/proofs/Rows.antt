@@ -15,16 +15,11 @@ use Rattle.c_tree.specs.Words.{Word}
 use Rattle.c_tree.specs.tokens.Spelling.{is_token, token_kind}
 use Rattle.c_tree.specs.tokens.Limits.{is_within}
 use Rattle.c_syntax.specs.grammar.Kinds.{kind_of}
+use Rattle.c_raw_build.specs.Due.{IsOfKind}
 use Rattle.c_raw_build.specs.Placed.{Placed, width, width_of, end, row_of, is_of, parts_of, subtree_at, part, has_subtree, spine, spine_of, elements, elements_of_two, before_first, elements_before}
 use Rattle.c_raw_build.specs.Words.{CText, word_at}
 use Rattle.c_law_words.proofs.Derived.{Derives, Fit}
 use Rattle.c_law_words.proofs.Listed.{row_list}
-
--- A word that is a token of this kind; a number is within the limits.
-pub record IsOfKind (k : ℕ) (w : Word) : Type 0 where
-  pub kind_is : kind_of (token_kind w) w ≡ k
-  pub token : is_token w ≡ true
-  pub within : begins is_digit w ≡ true → is_within w ≡ true
 
 -- words of these kinds stand in the text from this token on
 abbrev pub KindsAt : CText → ℕ → List ℕ → Type 0

@@ -27,7 +27,7 @@ use Rattle.c_law_print_parses.proofs.Lefts.{field_name_left, statements_left, st
 use Rattle.c_law_words.proofs.Listed.{row_list}
 use Rattle.c_law_words.proofs.Pieces.{◌▹◌}
 use Rattle.c_law_spelled.proofs.Rows.{IsOf, IsRow, symbols_in, sub, tok, behind, by_rows}
-use Rattle.c_law_spelled.proofs.Names.{name_value}
+use Rattle.c_raw_build.proofs.NameNumbers.{name_value}
 use Rattle.c_law_spelled.proofs.Atoms.{first_place, number_spelled, field_spelled, atom_spelled, right_spelled}
 
 -- each number of a target is within the limits

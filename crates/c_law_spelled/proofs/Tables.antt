@@ -15,8 +15,9 @@ use Rattle.c_raw_build.specs.Words.{CText, word_at, number_at, string_at}
 use Rattle.c_law_print_parses.proofs.Lefts.{integer_left, number_left, node_rows_left, entry_rows_left, pair_left, second_node_left, entry_parts_left, pair_rows_left, param_rows_left, more_strings_left, descriptors_left}
 use Rattle.c_law_words.proofs.Listed.{row_list}
 use Rattle.c_law_words.proofs.Pieces.{◌▹◌}
-use Rattle.c_law_spelled.proofs.Rows.{IsOf, IsRow, IsOfKind, sub, tok, behind, by_rows, each_map, each_both, each_told_map, passes_map, passes_map_map, elements_rows}
-use Rattle.c_law_spelled.proofs.Strings.{string_value}
+use Rattle.c_raw_build.specs.Due.{IsOfKind}
+use Rattle.c_law_spelled.proofs.Rows.{IsOf, IsRow, sub, tok, behind, by_rows, each_map, each_both, each_told_map, passes_map, passes_map_map, elements_rows}
+use Rattle.c_raw_build.proofs.Strings.{string_value}
 use Rattle.c_law_spelled.proofs.Atoms.{number_spelled, integer_spelled}
 use Rattle.c_law_spelled.proofs.Counts.{counted_map, elements_counted, strings_fewer}
 

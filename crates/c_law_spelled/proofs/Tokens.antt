@@ -21,73 +21,11 @@ use Rattle.c_syntax.specs.grammar.Sets.{c_grammar, c_rules}
 use Rattle.c_syntax.proofs.Longest.{drop-drop}
 use Rattle.c_syntax.proofs.Tables.{row_written}
 use Rattle.c_raw_build.specs.Words.{CText, word_of, word_at}
+use Rattle.c_raw_build.proofs.Tokens.{IsGood, tokens_good}
 use Rattle.c_law_words.proofs.Derived.{Derives, Fit}
 use Rattle.c_law_words.proofs.Listed.{rows_same}
-use Rattle.c_law_spelled.proofs.Rows.{IsOfKind, KindsAt, IsOf}
-
--- a token of a text
-abbrev pub IsGood : List ℕ → CToken → Type 0
-IsGood text t =
-    (t.kind ≡ token_kind (bytes_of text t)) × (is_token (bytes_of text t) ≡ true)
-    × (begins is_digit (bytes_of text t) ≡ true → is_within (bytes_of text t) ≡ true)
-
-begins_taken : (test : ℕ → Bool) (n : ℕ) (text : List ℕ) → begins test (take n text) ≡ true → begins test text ≡ true
-begins_taken test zero [] h = h
-begins_taken test zero (c ∷ text) h = absurd (true_not_false h refl)
-begins_taken test (suc n) [] h = h
-begins_taken test (suc n) (c ∷ text) h = h
-
-abbrev IsFront : List ℕ → Type 0
-IsFront w = (is_token w ≡ true) × (begins is_digit w ≡ true → is_within w ≡ true)
-
-front_good : (text : List ℕ) (n : ℕ) → front_len text ≡ Some n → IsFront (take n text)
-unfolding front_len
-front_good text n h = by_longest (longest is_token text) refl h
-  where
-    by_tests : (m : ℕ) (b d : Bool) → longest is_token text ≡ Some m → begins is_digit text ≡ b → is_within (take m text) ≡ d
-        → (if b then (if d then Some m else None) else Some m) ≡ Some n → IsFront (take n text)
-    by_tests m true true l e f h =
-        subst (λ k. IsFront (take k text)) (some_same h) ((IsLongest-from is_token text m l).passes, λ g. f)
-    by_tests m true false l e f h = absurd (some_none (sym h))
-    by_tests m false d l e f h =
-        subst (λ k. IsFront (take k text)) (some_same h)
-        ((IsLongest-from is_token text m l).passes, λ g. absurd (true_not_false (begins_taken is_digit m text g) e))
-
-    by_longest : (r : Option ℕ) → longest is_token text ≡ r → limited text r ≡ Some n → IsFront (take n text)
-    by_longest None l h = absurd (some_none (sym h))
-    by_longest (Some m) l h = by_tests m (begins is_digit text) (is_within (take m text)) l refl refl h
-
-rest_dropped : (c at : ℕ) (text whole : List ℕ) → c ∷ text ≡ drop at whole → text ≡ drop (at + 1) whole
-rest_dropped c at text whole h = ap (drop 1) h ∙ drop-drop at 1 whole
-
-by_separator : (P : CToken → Type 0) (b : Bool) (x y : CTokens) → EachHas P x.tokens → EachHas P y.tokens → EachHas P (if b then x else y).tokens
-by_separator P true x y h g = h
-by_separator P false x y h g = g
-
-by_front : (whole : List ℕ) (at : ℕ) (text : List ℕ) (r : Option ℕ) (more : CTokens) → text ≡ drop at whole → front_len text ≡ r
-    → EachHas (IsGood whole) more.tokens → EachHas (IsGood whole) (tokens_at at text r more).tokens
-by_front whole at text None more e f h = tt
-by_front whole at text (Some n) more e f h =
-    let good = front_good text n f in (
-      (
-        ap (λ l. token_kind (take n l)) e,
-        subst (λ l. is_token (take n l) ≡ true) e good.0,
-        subst (λ l. begins is_digit (take n l) ≡ true → is_within (take n l) ≡ true) e good.1,
-      ),
-      h,
-    )
-
-tokens_good : (whole : List ℕ) (at rest : ℕ) (text : List ℕ) → text ≡ drop at whole → EachHas (IsGood whole) (tokens_from at rest text).tokens
-unfolding tokens_from
-tokens_good whole at zero [] h = tt
-tokens_good whole at (suc rest) [] h = tt
-tokens_good whole at (suc rest) (c ∷ text) h = tokens_good whole (at + 1) rest text (rest_dropped c at text whole h)
-tokens_good whole at zero (c ∷ text) h =
-    let more = rest_dropped c at text whole h in
-    let skipped = less_one (front_len (c ∷ text)) in
-    by_separator (IsGood whole) (is_separator c) (tokens_from (at + 1) 0 text)
-    (tokens_at at (c ∷ text) (front_len (c ∷ text)) (tokens_from (at + 1) skipped text)) (tokens_good whole (at + 1) 0 text more)
-    (by_front whole at (c ∷ text) (front_len (c ∷ text)) (tokens_from (at + 1) skipped text) h refl (tokens_good whole (at + 1) skipped text more))
+use Rattle.c_raw_build.specs.Due.{IsOfKind}
+use Rattle.c_law_spelled.proofs.Rows.{KindsAt, IsOf}
 
 -- there are no more tokens than bytes
 few_separator : (b : Bool) (x y : CTokens) (n : ℕ) → length x.tokens ≤ n → length y.tokens ≤ n → length (if b then x else y).tokens ≤ n
@@ -117,7 +55,7 @@ kinds_from text (t ∷ ts) i there good =
     let w = bytes_of text.bytes t in
     let word : word_at text i ≡ w = ap (λ n. word_of text (slice_get text.tokens n)) (let same : i ≡ i + 0 = omega arith in same) ∙ ap (word_of text) (there 0) in
     let k = kind_in text.bytes t in
-    let known : IsOfKind k w = record { kind_is = ap (λ c. kind_of c w) (sym good.0.0); token = good.0.1; within = good.0.2 } in (
+    let known : IsOfKind k w = record { kind_is = ap (λ c. kind_of c w) (sym good.0.kind_is); token = good.0.token; within = good.0.limits } in (
       subst (λ l. IsOfKind k l) (sym word) known,
       kinds_from text ts (i + 1) (λ j. ap (slice_get text.tokens) (let same : i + 1 + j ≡ i + suc j = omega arith in same) ∙ there (suc j)) good.1,
     )
@@ -149,7 +87,7 @@ unfolding c_rules
 sentence_tree bytes t s =
     let text = text_of bytes in
     let kinds : map (kind_in bytes) text.tokens ≡ spelling t = append_cancel_right (map (kind_in bytes) text.tokens) s.0 (0 ∷ []) s.1 ∙ sym s.2.spelled in
-    let good = tokens_good bytes 0 0 bytes refl in
+    let good = tokens_good bytes 0 0 bytes refl (omega arith) in
     record {
       derived = subst (λ rows. Derives rows 0 t) rows_same (tree_derived 0 t 0 s.2.derived);
       stands = subst (λ l. KindsAt text 0 l) kinds

@@ -3,3 +3,13 @@ pub mod Numbering
 pub mod Statements
 pub mod Nesting
 pub mod Trees
+pub mod DueRows
+pub mod DueTokens
+pub mod Tokens
+pub mod BodyDue
+pub mod Fronts
+pub mod WordKinds
+pub mod Numbers
+pub mod NameNumbers
+pub mod Strings
+pub mod TokenValues

@@ -18,7 +18,7 @@ use Rattle.c_raw_build.specs.RawOf.{raw_of, IsRawOf}
 use Rattle.c_raw_build.specs.Reading.{row_symbols, first_tree, later_trees, parts_from, trees_behind, trees_of}
 
 -- the symbols of a row that some nonterminal gives way to
-symbols_are : (row : ℕ) → IsRow c_rules row → row_symbols row ≡ c_rules.symbols row
+pub symbols_are : (row : ℕ) → IsRow c_rules row → row_symbols row ≡ c_rules.symbols row
 unfolding row_symbols
 symbols_are row is = symbols_of_numbers (get_or row_numbers row []) row refl is
 

@@ -10,5 +10,9 @@ pub mod Reading
 pub mod SimpleParts
 pub mod TableParts
 pub mod StructParts
+pub mod Nonterminals
+pub mod Due
 pub mod Steps
 pub mod FileParts
+pub mod BodyDue
+pub mod TokenKinds

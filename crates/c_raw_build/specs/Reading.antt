@@ -113,11 +113,11 @@ pub record ReadsElement {X : Type 0} (k : ℕ) (meaning : Placed → X) (before 
   pub at_is : after.at + width (first_tree (trees after)) ≡ before.at + width_of (parts_from (row_symbols k) (trees before))
   pub fewer : length after.nodes ≤ length before.nodes
 
--- So many tokens were passed, and the next tree was read behind them, and is this.
-pub record ReadsBehind {X : Type 0} (count : ℕ) (meaning : Placed → X) (before after : Ahead) (value : X) : Type 0 where
-  pub value_is : value ≡ meaning (placed (before.at + count) (first_tree (trees before)))
-  pub trees_are : trees after ≡ later_trees (trees before)
-  pub at_is : after.at ≡ before.at + count + width (first_tree (trees before))
+-- The next tree was passed, the tree behind it was read and is this, and one more token was passed.
+pub record ReadsSecond {X : Type 0} (meaning : Placed → X) (before after : Ahead) (value : X) : Type 0 where
+  pub value_is : value ≡ meaning (placed (before.at + width (first_tree (trees before))) (first_tree (later_trees (trees before))))
+  pub trees_are : trees after ≡ later_trees (later_trees (trees before))
+  pub at_is : after.at ≡ before.at + width (first_tree (trees before)) + width (first_tree (later_trees (trees before))) + 1
   pub fewer : length after.nodes < length before.nodes
 
 -- the module's number in a token with this index, if there is one

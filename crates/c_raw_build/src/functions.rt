@@ -1,11 +1,13 @@
 //! Reading functions, and the access function behind them.
-ghost use Rattle.std.specs.Prelude.{◌≡◌, IfOk, true, map};
+ghost use Rattle.std.specs.Prelude.{◌≡◌, IfOk, true, map, [], ◌∷◌};
 ghost use Rattle.std.specs.List.{list_all};
 ghost use Rattle.c_raw.specs.Blocks.{is_body};
 ghost use Rattle.c_raw.specs.Views.{function_view, access_view};
 ghost use Rattle.c_raw.specs.declared.file.RawFunction as spec_function;
-ghost use Rattle.c_raw_build.specs.Reading.{Reads, ReadsElement, next_tree};
-ghost use Rattle.c_raw_build.specs.RawFiles.{function as function_lem, functions as functions_lem, access as access_lem};
+ghost use Rattle.c_raw_build.specs.Due.{AreDueIn, IsDueIn};
+ghost use Rattle.c_raw_build.specs.Nonterminals as nonterminals;
+ghost use Rattle.c_raw_build.specs.Reading.{Reads, ReadsElement, row_symbols, next_tree};
+ghost use Rattle.c_raw_build.specs.RawFiles as raw;
 ghost use Rattle.c_raw_build.specs.RowNumbers.{function_row};
 
 use crate::atoms::{placed_atom, ty};
@@ -25,21 +27,23 @@ fn function(
     text: &Text<'_>,
     reader: &mut Reader<'_>,
 ) -> Result<RawFunction, AllocError>
-    ensures read { IfOk result (λ v. ReadsElement function_row (function_lem text.now) reader.old reader.new (function_view v)) }
+    requires { AreDueIn text.now (row_symbols function_row) reader.old }
+    ensures read { IfOk result (λ v. ReadsElement function_row (raw.function text.now) reader.old reader.new (function_view v)) }
+    ensures due { IfOk result (λ _. IsDueIn text.now (nonterminals.functions ∷ []) reader.new) }
     ensures body { IfOk result (λ v. is_body v.body ≡ true) }
 {
-    let result = ty(reader)?;
+    let result = ty(reader);
     let at = reader.at();
-    let value = text.function(at)?;
-    reader.pass(2)?;
+    let value = text.function(at);
+    reader.pass(2);
     let arguments = arguments(alloc, text, reader)?;
-    reader.pass(2)?;
+    reader.pass(2);
     let list = statements(alloc, text, reader)?;
-    reader.pass(1)?;
-    let returned = placed_atom(text, reader)?;
-    reader.pass(1)?;
+    reader.pass(1);
+    let returned = placed_atom(text, reader);
+    reader.pass(1);
     let body = closed(list, reader.at())?;
-    reader.pass(1)?;
+    reader.pass(1);
     Ok(RawFunction {
         number: At { at, value },
         result,
@@ -62,32 +66,33 @@ pub(crate) fn all_functions(
     text: &Text<'_>,
     reader: &mut Reader<'_>,
 ) -> Result<Functions, AllocError>
-    ensures read { IfOk result (λ v. Reads (functions_lem text.now) reader.old reader.new (map function_view v.functions.items)) }
-    ensures access { IfOk result (λ v. map access_view v.access.items ≡ access_lem text.now (next_tree reader.old)) }
+    requires { IsDueIn text.now (nonterminals.functions ∷ []) reader.old }
+    ensures read { IfOk result (λ v. Reads (raw.functions text.now) reader.old reader.new (map function_view v.functions.items)) }
+    ensures access { IfOk result (λ v. map access_view v.access.items ≡ raw.access text.now (next_tree reader.old)) }
     ensures bodies { IfOk result (λ v. list_all (λ f. is_body (spec_function.RawFunction.body f)) v.functions.items ≡ true) }
 {
     let mut list = Vec::new(alloc);
     loop {
-        match reader.row()? {
+        match reader.row() {
             row::FUNCTIONS => {
-                reader.pass(1)?;
+                reader.pass(1);
             }
             row::FUNCTION => {
                 let next = function(alloc, text, reader)?;
                 list.push(next)?;
             }
             row::ACCESS => {
-                reader.pass(19)?;
-                instance(reader)?;
-                model(reader)?;
+                reader.pass(19);
+                instance(reader);
+                model(reader);
                 let access = access_rows(alloc, text, reader)?;
-                reader.pass(4)?;
+                reader.pass(4);
                 return Ok(Functions {
                     functions: list,
                     access,
                 });
             }
-            _ => return Err(AllocError),
+            _ => unreachable!(),
         }
     }
 }

@@ -1,9 +1,11 @@
 //! Reading load functions.
-ghost use Rattle.std.specs.Prelude.{◌≡◌, IfOk, map};
+ghost use Rattle.std.specs.Prelude.{◌≡◌, IfOk, map, [], ◌∷◌};
 ghost use Rattle.c_raw.specs.Blocks.{at_view};
 ghost use Rattle.c_raw.specs.Views.{load_view, loads_view};
-ghost use Rattle.c_raw_build.specs.Reading.{Reads};
-ghost use Rattle.c_raw_build.specs.RawTables.{matrix_target as matrix_target_lem, target_of, sign_of, factor_of, placed_factor as placed_factor_lem, more_factors as more_factors_lem, load_statements as load_statements_lem, load_function as load_function_lem, loads as loads_lem};
+ghost use Rattle.c_raw_build.specs.Due.{AreDueIn, IsDue, IsDueIn};
+ghost use Rattle.c_raw_build.specs.Nonterminals as nonterminals;
+ghost use Rattle.c_raw_build.specs.Reading.{Reads, ReadsSecond};
+ghost use Rattle.c_raw_build.specs.RawTables as raw;
 
 use crate::atoms::{field, node_number, number};
 use crate::headers::instance;
@@ -16,85 +18,89 @@ use std::alloc::{AllocError, Global};
 use va_base::Items;
 
 /// The matrix's place for an entry, in `* inst -> jr [ 1u ]`.
-fn matrix_target(text: &Text<'_>, reader: &mut Reader<'_>) -> Result<LoadTarget, AllocError>
-    ensures { IfOk result (λ v. Reads (matrix_target_lem text.now) reader.old reader.new v) }
+fn matrix_target(text: &Text<'_>, reader: &mut Reader<'_>) -> LoadTarget
+    requires { IsDueIn text.now (nonterminals.matrix_target ∷ []) reader.old }
+    ensures { Reads (raw.matrix_target text.now) reader.old reader.new result }
 {
-    let row = reader.row()?;
-    reader.pass(2)?;
-    let entry = number(text, reader)?;
-    reader.pass(1)?;
+    let row = reader.row();
+    reader.pass(2);
+    let entry = number(text, reader);
+    reader.pass(1);
     match row {
-        row::RESIST_TARGET => Ok(LoadTarget::EntryResist(entry)),
-        row::REACT_TARGET => Ok(LoadTarget::EntryReact(entry)),
-        _ => Err(AllocError),
+        row::RESIST_TARGET => LoadTarget::EntryResist(entry),
+        row::REACT_TARGET => LoadTarget::EntryReact(entry),
+        _ => unreachable!(),
     }
 }
 
 /// Where a load adds.
-fn target(text: &Text<'_>, reader: &mut Reader<'_>) -> Result<LoadTarget, AllocError>
-    ensures { IfOk result (λ v. Reads (target_of text.now) reader.old reader.new v) }
+fn target(text: &Text<'_>, reader: &mut Reader<'_>) -> LoadTarget
+    requires { IsDueIn text.now (nonterminals.load_target ∷ []) reader.old }
+    ensures { Reads (raw.target_of text.now) reader.old reader.new result }
 {
-    match reader.row()? {
+    match reader.row() {
         row::NODE_TARGET => {
-            reader.pass(2)?;
-            let node = node_number(text, reader)?;
-            reader.pass(1)?;
-            Ok(LoadTarget::Node(node))
+            reader.pass(2);
+            let node = node_number(text, reader);
+            reader.pass(1);
+            LoadTarget::Node(node)
         }
         row::MATRIX_TARGET => {
-            reader.pass(3)?;
-            let target = matrix_target(text, reader)?;
-            Ok(target)
+            reader.pass(3);
+            matrix_target(text, reader)
         }
-        _ => Err(AllocError),
+        _ => unreachable!(),
     }
 }
 
 /// `=`, `+=` or `-=`.
-fn sign(reader: &mut Reader<'_>) -> Result<LoadSign, AllocError>
-    ensures { IfOk result (λ v. Reads sign_of reader.old reader.new v) }
+fn sign(reader: &mut Reader<'_>) -> LoadSign
+    requires { IsDue (nonterminals.load_sign ∷ []) reader.old }
+    ensures { Reads raw.sign_of reader.old reader.new result }
 {
-    let row = reader.row()?;
-    reader.pass(1)?;
+    let row = reader.row();
+    reader.pass(1);
     match row {
-        row::PUT => Ok(LoadSign::Put),
-        row::ADD => Ok(LoadSign::Add),
-        row::SUBTRACT => Ok(LoadSign::Subtract),
-        _ => Err(AllocError),
+        row::PUT => LoadSign::Put,
+        row::ADD => LoadSign::Add,
+        row::SUBTRACT => LoadSign::Subtract,
+        _ => unreachable!(),
     }
 }
 
 /// A factor.
-fn factor(text: &Text<'_>, reader: &mut Reader<'_>) -> Result<LoadFactor, AllocError>
-    ensures { IfOk result (λ v. Reads (factor_of text.now) reader.old reader.new v) }
+fn factor(text: &Text<'_>, reader: &mut Reader<'_>) -> LoadFactor
+    requires { IsDueIn text.now (nonterminals.factor ∷ []) reader.old }
+    ensures { Reads (raw.factor_of text.now) reader.old reader.new result }
 {
-    match reader.row()? {
+    match reader.row() {
         row::ALPHA => {
-            reader.pass(1)?;
-            Ok(LoadFactor::Alpha)
+            reader.pass(1);
+            LoadFactor::Alpha
         }
         row::CELL_FACTOR => {
-            reader.pass(2)?;
-            let field = field(text, reader)?;
-            Ok(LoadFactor::Cell(field))
+            reader.pass(2);
+            let field = field(text, reader);
+            LoadFactor::Cell(field)
         }
         row::SOLUTION_FACTOR => {
-            reader.pass(2)?;
-            let node = node_number(text, reader)?;
-            reader.pass(1)?;
-            Ok(LoadFactor::Solution(node))
+            reader.pass(2);
+            let node = node_number(text, reader);
+            reader.pass(1);
+            LoadFactor::Solution(node)
         }
-        _ => Err(AllocError),
+        _ => unreachable!(),
     }
 }
 
 /// A factor, with the index of its first token.
-fn placed_factor(text: &Text<'_>, reader: &mut Reader<'_>) -> Result<At<LoadFactor>, AllocError>
-    ensures { IfOk result (λ v. Reads (placed_factor_lem text.now) reader.old reader.new (at_view v)) }
+fn placed_factor(text: &Text<'_>, reader: &mut Reader<'_>) -> At<LoadFactor>
+    requires { IsDueIn text.now (nonterminals.factor ∷ []) reader.old }
+    ensures { Reads (raw.placed_factor text.now) reader.old reader.new (at_view result) }
 {
     let at = reader.at();
-    let value = factor(text, reader)?;
-    Ok(At { at, value })
+    let value = factor(text, reader);
+    At { at, value }
 }
 
 /// The factors behind the first.
@@ -103,18 +109,19 @@ fn more_factors(
     text: &Text<'_>,
     reader: &mut Reader<'_>,
 ) -> Result<Vec<At<LoadFactor>>, AllocError>
-    ensures { IfOk result (λ v. Reads (more_factors_lem text.now) reader.old reader.new (map at_view v.items)) }
+    requires { IsDueIn text.now (nonterminals.more_factors ∷ []) reader.old }
+    ensures { IfOk result (λ v. Reads (raw.more_factors text.now) reader.old reader.new (map at_view v.items)) }
 {
     let mut list = Vec::new(alloc);
     loop {
-        match reader.row()? {
+        match reader.row() {
             row::MORE_FACTORS => {
-                reader.pass(1)?;
-                let next = placed_factor(text, reader)?;
+                reader.pass(1);
+                let next = placed_factor(text, reader);
                 list.push(next)?;
             }
             row::NO_MORE_FACTORS => return Ok(list),
-            _ => return Err(AllocError),
+            _ => unreachable!(),
         }
     }
 }
@@ -125,22 +132,23 @@ fn load_statements(
     text: &Text<'_>,
     reader: &mut Reader<'_>,
 ) -> Result<Vec<RawLoad>, AllocError>
-    ensures { IfOk result (λ v. Reads (load_statements_lem text.now) reader.old reader.new (map load_view v.items)) }
+    requires { IsDueIn text.now (nonterminals.load_statements ∷ []) reader.old }
+    ensures { IfOk result (λ v. Reads (raw.load_statements text.now) reader.old reader.new (map load_view v.items)) }
 {
     let mut list = Vec::new(alloc);
     loop {
-        match reader.row()? {
+        match reader.row() {
             row::LOAD => {
                 let at = reader.at();
-                let target = target(text, reader)?;
-                let sign = sign(reader)?;
-                let first = placed_factor(text, reader)?;
+                let target = target(text, reader);
+                let sign = sign(reader);
+                let first = placed_factor(text, reader);
                 let more = more_factors(alloc, text, reader)?;
-                reader.pass(1)?;
+                reader.pass(1);
                 list.push(load(at, target, sign, first, more))?;
             }
             row::NO_LOAD => return Ok(list),
-            _ => return Err(AllocError),
+            _ => unreachable!(),
         }
     }
 }
@@ -166,65 +174,60 @@ fn load(
     }
 }
 
+/// What stands behind the opening brace of a load function: the instance, the statements, and the closing brace.
+fn load_body(
+    alloc: Global,
+    text: &Text<'_>,
+    reader: &mut Reader<'_>,
+) -> Result<Vec<RawLoad>, AllocError>
+    requires { AreDueIn text.now nonterminals.load_body reader.old }
+    ensures { IfOk result (λ v. ReadsSecond (raw.load_statements text.now) reader.old reader.new (map load_view v.items)) }
+{
+    instance(reader);
+    let list = load_statements(alloc, text, reader)?;
+    reader.pass(1);
+    Ok(list)
+}
+
 /// A load function.
 fn load_function(
     alloc: Global,
     text: &Text<'_>,
     reader: &mut Reader<'_>,
 ) -> Result<Vec<RawLoad>, AllocError>
-    ensures { IfOk result (λ v. Reads (load_function_lem text.now) reader.old reader.new (map load_view v.items)) }
+    requires { IsDueIn text.now nonterminals.load_functions reader.old }
+    ensures { IfOk result (λ v. Reads (raw.load_function text.now) reader.old reader.new (map load_view v.items)) }
 {
-    match reader.row()? {
+    match reader.row() {
         row::RESIDUAL_RESIST => {
-            reader.pass(17)?;
-            instance(reader)?;
-            let list = load_statements(alloc, text, reader)?;
-            reader.pass(1)?;
-            Ok(list)
+            reader.pass(17);
+            load_body(alloc, text, reader)
         }
         row::RESIDUAL_REACT => {
-            reader.pass(17)?;
-            instance(reader)?;
-            let list = load_statements(alloc, text, reader)?;
-            reader.pass(1)?;
-            Ok(list)
+            reader.pass(17);
+            load_body(alloc, text, reader)
         }
         row::JACOBIAN_RESIST => {
-            reader.pass(13)?;
-            instance(reader)?;
-            let list = load_statements(alloc, text, reader)?;
-            reader.pass(1)?;
-            Ok(list)
+            reader.pass(13);
+            load_body(alloc, text, reader)
         }
         row::JACOBIAN_REACT => {
-            reader.pass(16)?;
-            instance(reader)?;
-            let list = load_statements(alloc, text, reader)?;
-            reader.pass(1)?;
-            Ok(list)
+            reader.pass(16);
+            load_body(alloc, text, reader)
         }
         row::JACOBIAN_TRAN => {
-            reader.pass(16)?;
-            instance(reader)?;
-            let list = load_statements(alloc, text, reader)?;
-            reader.pass(1)?;
-            Ok(list)
+            reader.pass(16);
+            load_body(alloc, text, reader)
         }
         row::SPICE_RHS_DC => {
-            reader.pass(21)?;
-            instance(reader)?;
-            let list = load_statements(alloc, text, reader)?;
-            reader.pass(1)?;
-            Ok(list)
+            reader.pass(21);
+            load_body(alloc, text, reader)
         }
         row::SPICE_RHS_TRAN => {
-            reader.pass(24)?;
-            instance(reader)?;
-            let list = load_statements(alloc, text, reader)?;
-            reader.pass(1)?;
-            Ok(list)
+            reader.pass(24);
+            load_body(alloc, text, reader)
         }
-        _ => Err(AllocError),
+        _ => unreachable!(),
     }
 }
 
@@ -234,9 +237,10 @@ pub(crate) fn loads(
     text: &Text<'_>,
     reader: &mut Reader<'_>,
 ) -> Result<RawLoads, AllocError>
-    ensures { IfOk result (λ v. Reads (loads_lem text.now) reader.old reader.new (loads_view v)) }
+    requires { IsDueIn text.now (nonterminals.loads ∷ []) reader.old }
+    ensures { IfOk result (λ v. Reads (raw.loads text.now) reader.old reader.new (loads_view v)) }
 {
-    reader.take(row::LOADS)?;
+    reader.take(row::LOADS);
     let residual_resist = load_function(alloc, text, reader)?;
     let residual_react = load_function(alloc, text, reader)?;
     let jacobian_resist = load_function(alloc, text, reader)?;

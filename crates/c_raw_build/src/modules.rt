@@ -1,9 +1,11 @@
 //! Reading modules and files.
-ghost use Rattle.std.specs.Prelude.{◌≡◌, IfOk, true, map};
+ghost use Rattle.std.specs.Prelude.{◌≡◌, IfOk, true, map, [], ◌∷◌};
 ghost use Rattle.std.specs.List.{list_all};
 ghost use Rattle.c_raw.specs.Views.{module_view, module_has_bodies, file_view, has_bodies};
+ghost use Rattle.c_raw_build.specs.Due.{IsDueIn};
+ghost use Rattle.c_raw_build.specs.Nonterminals as nonterminals;
 ghost use Rattle.c_raw_build.specs.FileParts.{exports_view, exports_of};
-ghost use Rattle.c_raw_build.specs.RawFiles.{raw_module, modules as modules_lem, file as file_lem};
+ghost use Rattle.c_raw_build.specs.RawFiles as raw;
 ghost use Rattle.c_raw_build.specs.Reading.{Reads};
 
 use crate::atoms::placed_number;
@@ -23,10 +25,11 @@ use va_base::Items;
 
 /// A module.
 fn module(alloc: Global, text: &Text<'_>, reader: &mut Reader<'_>) -> Result<RawModule, AllocError>
-    ensures read { IfOk result (λ v. Reads (raw_module text.now) reader.old reader.new (module_view v)) }
+    requires { IsDueIn text.now (nonterminals.one_module ∷ []) reader.old }
+    ensures read { IfOk result (λ v. Reads (raw.raw_module text.now) reader.old reader.new (module_view v)) }
     ensures bodies { IfOk result (λ v. module_has_bodies v ≡ true) }
 {
-    reader.take(row::MODULE)?;
+    reader.take(row::MODULE);
     let first = reader.at();
     let structs = two_structs(alloc, text, reader)?;
     let callable = all_functions(alloc, text, reader)?;
@@ -60,18 +63,19 @@ fn all_modules(
     text: &Text<'_>,
     reader: &mut Reader<'_>,
 ) -> Result<Vec<RawModule>, AllocError>
-    ensures read { IfOk result (λ v. Reads (modules_lem text.now) reader.old reader.new (map module_view v.items)) }
+    requires { IsDueIn text.now (nonterminals.modules ∷ []) reader.old }
+    ensures read { IfOk result (λ v. Reads (raw.modules text.now) reader.old reader.new (map module_view v.items)) }
     ensures bodies { IfOk result (λ v. list_all module_has_bodies v.items ≡ true) }
 {
     let mut list = Vec::new(alloc);
     loop {
-        match reader.row()? {
+        match reader.row() {
             row::MODULES => {
                 let next = module(alloc, text, reader)?;
                 list.push(next)?;
             }
             row::NO_MODULES => return Ok(list),
-            _ => return Err(AllocError),
+            _ => unreachable!(),
         }
     }
 }
@@ -85,14 +89,15 @@ struct Exports {
 
 /// What a simulator looks for first.
 fn exported(alloc: Global, text: &Text<'_>, reader: &mut Reader<'_>) -> Result<Exports, AllocError>
+    requires { IsDueIn text.now (nonterminals.exports ∷ []) reader.old }
     ensures { IfOk result (λ v. Reads (exports_of text.now) reader.old reader.new (exports_view v)) }
 {
-    reader.take(row::EXPORTS)?;
-    reader.pass(16)?;
-    let num_descriptors = placed_number(text, reader)?;
-    reader.pass(8)?;
+    reader.take(row::EXPORTS);
+    reader.pass(16);
+    let num_descriptors = placed_number(text, reader);
+    reader.pass(8);
     let descriptors = descriptors(alloc, text, reader)?;
-    reader.pass(2)?;
+    reader.pass(2);
     Ok(Exports {
         num_descriptors,
         descriptors,
@@ -105,12 +110,13 @@ pub(crate) fn file(
     text: &Text<'_>,
     reader: &mut Reader<'_>,
 ) -> Result<RawFile, AllocError>
-    ensures read { IfOk result (λ v. Reads (file_lem text.now) reader.old reader.new (file_view v)) }
+    requires { IsDueIn text.now (nonterminals.file ∷ []) reader.old }
+    ensures read { IfOk result (λ v. Reads (raw.file text.now) reader.old reader.new (file_view v)) }
     ensures bodies { IfOk result (λ v. has_bodies v ≡ true) }
 {
-    reader.take(row::FILE)?;
-    reader.pass(5)?;
-    help(reader)?;
+    reader.take(row::FILE);
+    reader.pass(5);
+    help(reader);
     let modules = all_modules(alloc, text, reader)?;
     let exports = exported(alloc, text, reader)?;
     Ok(RawFile {

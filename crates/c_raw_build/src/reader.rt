@@ -1,9 +1,9 @@
 //! Reading a parse tree node by node, in step with the tokens that it spells.
-ghost use Rattle.std.specs.Prelude.{◌≡◌, IfOk, OnOk};
-ghost use Rattle.c_raw_build.specs.Reading.{TakesRow, Passes};
+ghost use Rattle.std.specs.Prelude.{◌≡◌, ◌<◌, ◌+◌, ◌^◌, length};
+ghost use Rattle.c_raw_build.specs.Placed.{row_of};
+ghost use Rattle.c_raw_build.specs.Reading.{TakesRow, Passes, trees, first_tree};
 
 use predict::ParseNode;
-use std::alloc::AllocError;
 use std::marker::Model;
 
 /// What is left to read of a parse tree: its nodes from the next one on, and the index of the next token.
@@ -38,38 +38,40 @@ impl<'a> Reader<'a> {
     }
 
     /// Takes the next node, and answers its row.
-    pub(crate) fn row(&mut self) -> Result<u16, AllocError>
-        ensures { IfOk result (λ row. TakesRow self.old self.new row) }
+    pub(crate) fn row(&mut self) -> u16
+        requires { 0 < length self.old.nodes }
+        ensures { TakesRow self.old self.new result }
     {
         let Some((node, rest)) = self.nodes.split_first() else {
-            return Err(AllocError);
+            unreachable!();
         };
         self.nodes = rest;
-        Ok(node.row)
+        node.row
     }
 
-    /// The row of the next node, or None behind the last.
-    pub(crate) fn next_row(&self) -> Option<u16> {
-        let node = self.nodes.first()?;
-        Some(node.row)
-    }
-
-    /// Takes the next node, where it is of this row.
-    pub(crate) fn take(&mut self, row: u16) -> Result<(), AllocError>
-        ensures { OnOk result (TakesRow self.old self.new row) }
+    /// The row of the next node.
+    pub(crate) fn next_row(&self) -> u16
+        requires { 0 < length self.now.nodes }
+        ensures { result ≡ row_of (first_tree (trees self.now)) }
     {
-        let taken = self.row()?;
-        if taken != row {
-            return Err(AllocError);
-        }
-        Ok(())
+        self.nodes[0].row
     }
 
-    /// Passes so many tokens.
-    pub(crate) fn pass(&mut self, count: u32) -> Result<(), AllocError>
-        ensures { OnOk result (Passes self.old self.new count) }
+    /// Takes the next node, which is of this row.
+    pub(crate) fn take(&mut self, row: u16)
+        requires there { 0 < length self.old.nodes }
+        requires row { row_of (first_tree (trees self.old)) ≡ row }
+        ensures { TakesRow self.old self.new row }
     {
-        self.at = self.at.checked_add(count).ok_or(AllocError)?;
-        Ok(())
+        let taken = self.row();
+        prove!(taken == row);
+    }
+
+    /// Passes so many tokens, whose indices are of 32 bits.
+    pub(crate) fn pass(&mut self, count: u32)
+        requires { self.old.at + count < 2 ^ 32 }
+        ensures { Passes self.old self.new count }
+    {
+        self.at += count;
     }
 }

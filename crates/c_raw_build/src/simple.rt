@@ -1,10 +1,15 @@
 //! Reading statements without blocks.
-ghost use Rattle.std.specs.Prelude.{◌≡◌, IfOk};
+ghost use Rattle.std.specs.Prelude.{◌≡◌, ◌≢◌, IfOk, [], ◌∷◌};
 ghost use Rattle.c_raw.specs.Blocks.{at_view, simple_view};
-ghost use Rattle.c_raw_build.specs.Reading.{Reads};
-ghost use Rattle.c_raw_build.specs.RawBodies.{declared as declared_lem, instance_target as instance_target_lem, set_target as set_target_lem};
+ghost use Rattle.c_raw_build.specs.Due.{HasOneOf, IsDueIn};
+ghost use Rattle.c_raw_build.specs.Nonterminals as nonterminals;
+ghost use Rattle.c_raw_build.specs.Placed.{row_of};
+ghost use Rattle.c_raw_build.specs.Reading.{Reads, first_tree, trees};
+ghost use Rattle.c_raw_build.specs.RowNumbers.{constant_row, declared_row, assigned_row, set_model_row, set_instance_row, report_row, if_row, for_row};
+ghost use Rattle.c_raw_build.specs.RawBodies as raw;
 ghost use Rattle.c_raw_build.specs.Steps.{ReadsSimple};
 ghost use Rattle.c_raw_build.specs.SimpleParts.{target_view};
+ghost use Rattle.c_raw_build.specs.TokenKinds as token_kinds;
 ghost use Rattle.c_raw_build.specs.Words.{numbered_at};
 
 use crate::atoms::{field, number, placed_atom, ty};
@@ -23,14 +28,19 @@ pub(crate) fn simple(
     text: &Text<'_>,
     reader: &mut Reader<'_>,
 ) -> Result<RawSimple, AllocError>
+    requires due { IsDueIn text.now (nonterminals.statement ∷ []) reader.old }
+    requires no_if { row_of (first_tree (trees reader.old)) ≢ if_row }
+    requires no_for { row_of (first_tree (trees reader.old)) ≢ for_row }
     ensures { IfOk result (λ v. ReadsSimple text.now reader.old reader.new v) }
 {
     match reader.next_row() {
-        Some(row::CONSTANT) => constant(alloc, text, reader),
-        Some(row::DECLARED) => declared(text, reader),
-        Some(row::ASSIGNED) => assigned(text, reader),
-        Some(row::REPORT) => report(text, reader),
-        _ => set_cell(text, reader),
+        row::CONSTANT => constant(alloc, text, reader),
+        row::DECLARED => Ok(declared(text, reader)),
+        row::ASSIGNED => Ok(assigned(text, reader)),
+        row::SET_MODEL => Ok(set_model(text, reader)),
+        row::SET_INSTANCE => Ok(set_instance(text, reader)),
+        row::REPORT => Ok(report(text, reader)),
+        _ => unreachable!(),
     }
 }
 
@@ -40,16 +50,18 @@ fn constant(
     text: &Text<'_>,
     reader: &mut Reader<'_>,
 ) -> Result<RawSimple, AllocError>
+    requires due { IsDueIn text.now (nonterminals.statement ∷ []) reader.old }
+    requires row { row_of (first_tree (trees reader.old)) ≡ constant_row }
     ensures { IfOk result (λ v. ReadsSimple text.now reader.old reader.new v) }
 {
-    reader.take(row::CONSTANT)?;
-    reader.pass(1)?;
-    let ty = ty(reader)?;
-    let local = local(text, reader.at())?;
-    reader.pass(2)?;
+    reader.take(row::CONSTANT);
+    reader.pass(1);
+    let ty = ty(reader);
+    let local = local(text, reader.at());
+    reader.pass(2);
     let at = reader.at();
     let right = right(alloc, text, reader)?;
-    reader.pass(1)?;
+    reader.pass(1);
     Ok(RawSimple::Constant {
         ty,
         local,
@@ -59,95 +71,103 @@ fn constant(
 }
 
 /// `double v1 ;` or `double v1 = .. ;`
-fn declared(text: &Text<'_>, reader: &mut Reader<'_>) -> Result<RawSimple, AllocError>
-    ensures { IfOk result (λ v. ReadsSimple text.now reader.old reader.new v) }
+fn declared(text: &Text<'_>, reader: &mut Reader<'_>) -> RawSimple
+    requires due { IsDueIn text.now (nonterminals.statement ∷ []) reader.old }
+    requires row { row_of (first_tree (trees reader.old)) ≡ declared_row }
+    ensures { ReadsSimple text.now reader.old reader.new result }
 {
-    reader.take(row::DECLARED)?;
-    let ty = ty(reader)?;
-    let local = local(text, reader.at())?;
-    reader.pass(1)?;
-    let value = first_value(text, reader, ty, local)?;
-    reader.pass(1)?;
-    Ok(value)
+    reader.take(row::DECLARED);
+    let ty = ty(reader);
+    let local = local(text, reader.at());
+    reader.pass(1);
+    let value = first_value(text, reader, ty, local);
+    reader.pass(1);
+    value
 }
 
 /// What follows a declared local: a first value, or nothing.
-fn first_value(
-    text: &Text<'_>,
-    reader: &mut Reader<'_>,
-    ty: Ty,
-    local: At<u32>,
-) -> Result<RawSimple, AllocError>
-    ensures { IfOk result (λ v. Reads (declared_lem text.now ty (at_view local)) reader.old reader.new (simple_view v)) }
+fn first_value(text: &Text<'_>, reader: &mut Reader<'_>, ty: Ty, local: At<u32>) -> RawSimple
+    requires { IsDueIn text.now (nonterminals.first_value ∷ []) reader.old }
+    ensures { Reads (raw.declared text.now ty (at_view local)) reader.old reader.new (simple_view result) }
 {
-    match reader.row()? {
+    match reader.row() {
         row::FIRST_VALUE => {
-            reader.pass(1)?;
-            let first = placed_atom(text, reader)?;
-            Ok(RawSimple::Head { ty, local, first })
+            reader.pass(1);
+            let first = placed_atom(text, reader);
+            RawSimple::Head { ty, local, first }
         }
-        row::NO_FIRST_VALUE => Ok(RawSimple::Join { ty, local }),
-        _ => Err(AllocError),
+        row::NO_FIRST_VALUE => RawSimple::Join { ty, local },
+        _ => unreachable!(),
     }
 }
 
 /// `v1 = .. ;`
-fn assigned(text: &Text<'_>, reader: &mut Reader<'_>) -> Result<RawSimple, AllocError>
-    ensures { IfOk result (λ v. ReadsSimple text.now reader.old reader.new v) }
+fn assigned(text: &Text<'_>, reader: &mut Reader<'_>) -> RawSimple
+    requires due { IsDueIn text.now (nonterminals.statement ∷ []) reader.old }
+    requires row { row_of (first_tree (trees reader.old)) ≡ assigned_row }
+    ensures { ReadsSimple text.now reader.old reader.new result }
 {
-    reader.take(row::ASSIGNED)?;
-    let local = local(text, reader.at())?;
-    reader.pass(2)?;
-    let value = placed_atom(text, reader)?;
-    reader.pass(1)?;
-    Ok(RawSimple::Assign { local, value })
+    reader.take(row::ASSIGNED);
+    let local = local(text, reader.at());
+    reader.pass(2);
+    let value = placed_atom(text, reader);
+    reader.pass(1);
+    RawSimple::Assign { local, value }
 }
 
 /// `init_error ( res , 1u ) ;`
-fn report(text: &Text<'_>, reader: &mut Reader<'_>) -> Result<RawSimple, AllocError>
-    ensures { IfOk result (λ v. ReadsSimple text.now reader.old reader.new v) }
+fn report(text: &Text<'_>, reader: &mut Reader<'_>) -> RawSimple
+    requires due { IsDueIn text.now (nonterminals.statement ∷ []) reader.old }
+    requires row { row_of (first_tree (trees reader.old)) ≡ report_row }
+    ensures { ReadsSimple text.now reader.old reader.new result }
 {
-    reader.take(row::REPORT)?;
+    reader.take(row::REPORT);
     let at = reader.at();
-    reader.pass(4)?;
-    let value = number(text, reader)?;
-    reader.pass(2)?;
-    Ok(RawSimple::Report {
+    reader.pass(4);
+    let value = number(text, reader);
+    reader.pass(2);
+    RawSimple::Report {
         id: At { at, value },
-    })
+    }
 }
 
-/// `model -> p1 = .. ;`, `inst -> r1 = .. ;` or `inst -> col [ 1u ] = .. ;`
-fn set_cell(text: &Text<'_>, reader: &mut Reader<'_>) -> Result<RawSimple, AllocError>
-    ensures { IfOk result (λ v. ReadsSimple text.now reader.old reader.new v) }
+/// `model -> p1 = .. ;`
+fn set_model(text: &Text<'_>, reader: &mut Reader<'_>) -> RawSimple
+    requires due { IsDueIn text.now (nonterminals.statement ∷ []) reader.old }
+    requires row { row_of (first_tree (trees reader.old)) ≡ set_model_row }
+    ensures { ReadsSimple text.now reader.old reader.new result }
 {
-    let row = reader.row()?;
+    reader.take(row::SET_MODEL);
     let at = reader.at();
-    reader.pass(2)?;
-    match row {
-        row::SET_MODEL => {
-            let field = field(text, reader)?;
-            reader.pass(1)?;
-            let value = placed_atom(text, reader)?;
-            reader.pass(1)?;
-            let cell = At {
-                at,
-                value: CCell {
-                    level: Level::Model,
-                    field,
-                },
-            };
-            Ok(RawSimple::SetCell { cell, value })
-        }
-        row::SET_INSTANCE => {
-            let target = instance_target(text, reader)?;
-            reader.pass(1)?;
-            let value = placed_atom(text, reader)?;
-            reader.pass(1)?;
-            Ok(set_target(at, target, value))
-        }
-        _ => Err(AllocError),
-    }
+    reader.pass(2);
+    let field = field(text, reader);
+    reader.pass(1);
+    let value = placed_atom(text, reader);
+    reader.pass(1);
+    let cell = At {
+        at,
+        value: CCell {
+            level: Level::Model,
+            field,
+        },
+    };
+    RawSimple::SetCell { cell, value }
+}
+
+/// `inst -> r1 = .. ;` or `inst -> col [ 1u ] = .. ;`
+fn set_instance(text: &Text<'_>, reader: &mut Reader<'_>) -> RawSimple
+    requires due { IsDueIn text.now (nonterminals.statement ∷ []) reader.old }
+    requires row { row_of (first_tree (trees reader.old)) ≡ set_instance_row }
+    ensures { ReadsSimple text.now reader.old reader.new result }
+{
+    reader.take(row::SET_INSTANCE);
+    let at = reader.at();
+    reader.pass(2);
+    let target = instance_target(text, reader);
+    reader.pass(1);
+    let value = placed_atom(text, reader);
+    reader.pass(1);
+    set_target(at, target, value)
 }
 
 /// What a statement sets in the instance: a field, or the collapse flag of a pair.
@@ -158,27 +178,28 @@ enum Target {
 }
 
 /// What stands behind `inst ->` where something is set.
-fn instance_target(text: &Text<'_>, reader: &mut Reader<'_>) -> Result<Target, AllocError>
-    ensures { IfOk result (λ v. Reads (instance_target_lem text.now) reader.old reader.new (target_view v)) }
+fn instance_target(text: &Text<'_>, reader: &mut Reader<'_>) -> Target
+    requires { IsDueIn text.now (nonterminals.instance_target ∷ []) reader.old }
+    ensures { Reads (raw.instance_target text.now) reader.old reader.new (target_view result) }
 {
-    match reader.row()? {
+    match reader.row() {
         row::FIELD_TARGET => {
-            let field = field(text, reader)?;
-            Ok(Target::Field(field))
+            let field = field(text, reader);
+            Target::Field(field)
         }
         row::COLLAPSE_TARGET => {
-            reader.pass(2)?;
-            let pair = number(text, reader)?;
-            reader.pass(1)?;
-            Ok(Target::Pair(pair))
+            reader.pass(2);
+            let pair = number(text, reader);
+            reader.pass(1);
+            Target::Pair(pair)
         }
-        _ => Err(AllocError),
+        _ => unreachable!(),
     }
 }
 
 /// The setting of a target behind the `inst` with this index.
 fn set_target(at: u32, target: Target, value: At<CAtom>) -> RawSimple
-    ensures { simple_view result ≡ set_target_lem at (target_view target) (at_view value) }
+    ensures { simple_view result ≡ raw.set_target at (target_view target) (at_view value) }
 {
     match target {
         Target::Field(field) => RawSimple::SetCell {
@@ -199,9 +220,10 @@ fn set_target(at: u32, target: Target, value: At<CAtom>) -> RawSimple
 }
 
 /// The local that a token names.
-fn local(text: &Text<'_>, at: u32) -> Result<At<u32>, AllocError>
-    ensures { IfOk result (λ v. at_view v ≡ numbered_at text.now at) }
+fn local(text: &Text<'_>, at: u32) -> At<u32>
+    requires { HasOneOf text.now at token_kinds.locals }
+    ensures { at_view result ≡ numbered_at text.now at }
 {
-    let value = text.number(at)?;
-    Ok(At { at, value })
+    let value = text.number(at);
+    At { at, value }
 }

@@ -1,11 +1,13 @@
 //! Reading structs, functions and access rows.
-ghost use Rattle.std.specs.Prelude.{◌≡◌, IfOk, map, Bool};
+ghost use Rattle.std.specs.Prelude.{◌≡◌, IfOk, map, Bool, [], ◌∷◌};
 ghost use Rattle.c_raw.specs.Blocks.{at_view};
 ghost use Rattle.c_raw.specs.Views.{field_view, argument_view, access_view, flag_view, sizes_view};
-ghost use Rattle.c_raw_build.specs.Reading.{Reads, ReadsElement};
+ghost use Rattle.c_raw_build.specs.Due.{AreDueIn, IsDue, IsDueIn};
+ghost use Rattle.c_raw_build.specs.Nonterminals as nonterminals;
+ghost use Rattle.c_raw_build.specs.Reading.{Reads, ReadsElement, row_symbols};
 ghost use Rattle.c_raw_build.specs.RowNumbers.{access_rows_row};
 ghost use Rattle.c_raw_build.specs.StructParts.{has_instance_test, structs_view, structs_of};
-ghost use Rattle.c_raw_build.specs.RawFiles.{fields as fields_lem, arguments as arguments_lem, flag as flag_lem, access_row as access_row_lem, access as access_lem};
+ghost use Rattle.c_raw_build.specs.RawFiles as raw;
 
 use crate::atoms::{placed_cell, placed_number, ty};
 use crate::reader::Reader;
@@ -21,21 +23,22 @@ pub(crate) fn fields(
     text: &Text<'_>,
     reader: &mut Reader<'_>,
 ) -> Result<Vec<RawField>, AllocError>
-    ensures { IfOk result (λ v. Reads (fields_lem text.now) reader.old reader.new (map field_view v.items)) }
+    requires { IsDueIn text.now (nonterminals.fields ∷ []) reader.old }
+    ensures { IfOk result (λ v. Reads (raw.fields text.now) reader.old reader.new (map field_view v.items)) }
 {
     let mut list = Vec::new(alloc);
     loop {
-        match reader.row()? {
+        match reader.row() {
             row::FIELDS => {
-                let ty = ty(reader)?;
+                let ty = ty(reader);
                 let at = reader.at();
-                let value = text.field(at)?;
-                reader.pass(2)?;
+                let value = text.field(at);
+                reader.pass(2);
                 let field = At { at, value };
                 list.push(RawField { ty, field })?;
             }
             row::NO_FIELDS => return Ok(list),
-            _ => return Err(AllocError),
+            _ => unreachable!(),
         }
     }
 }
@@ -46,62 +49,65 @@ pub(crate) fn arguments(
     text: &Text<'_>,
     reader: &mut Reader<'_>,
 ) -> Result<Vec<RawArgument>, AllocError>
-    ensures { IfOk result (λ v. Reads (arguments_lem text.now) reader.old reader.new (map argument_view v.items)) }
+    requires { IsDueIn text.now (nonterminals.arguments ∷ []) reader.old }
+    ensures { IfOk result (λ v. Reads (raw.arguments text.now) reader.old reader.new (map argument_view v.items)) }
 {
     let mut list = Vec::new(alloc);
     loop {
-        match reader.row()? {
+        match reader.row() {
             row::ARGUMENTS => {
-                let ty = ty(reader)?;
+                let ty = ty(reader);
                 let at = reader.at();
-                let value = text.number(at)?;
-                reader.pass(1)?;
+                let value = text.number(at);
+                reader.pass(1);
                 let number = At { at, value };
                 list.push(RawArgument { ty, number })?;
             }
             row::MORE_ARGUMENTS => {
-                reader.pass(1)?;
-                let ty = ty(reader)?;
+                reader.pass(1);
+                let ty = ty(reader);
                 let at = reader.at();
-                let value = text.number(at)?;
-                reader.pass(1)?;
+                let value = text.number(at);
+                reader.pass(1);
                 let number = At { at, value };
                 list.push(RawArgument { ty, number })?;
             }
             row::NO_ARGUMENTS => return Ok(list),
             row::NO_MORE_ARGUMENTS => return Ok(list),
-            _ => return Err(AllocError),
+            _ => unreachable!(),
         }
     }
 }
 
 /// Whether an access row holds only for calls that ask for the instance's cell.
-fn instance_test(reader: &mut Reader<'_>) -> Result<bool, AllocError>
-    ensures { IfOk result (λ v. Reads has_instance_test reader.old reader.new v) }
+fn instance_test(reader: &mut Reader<'_>) -> bool
+    requires { IsDue (nonterminals.instance_test ∷ []) reader.old }
+    ensures { Reads has_instance_test reader.old reader.new result }
 {
-    match reader.row()? {
+    match reader.row() {
         row::INSTANCE_TEST => {
-            reader.pass(6)?;
-            Ok(true)
+            reader.pass(6);
+            true
         }
-        row::NO_INSTANCE_TEST => Ok(false),
-        _ => Err(AllocError),
+        row::NO_INSTANCE_TEST => false,
+        _ => unreachable!(),
     }
 }
 
 /// The flag that an access row sets.
-fn flag(text: &Text<'_>, reader: &mut Reader<'_>) -> Result<Option<At<CCell>>, AllocError>
-    ensures { IfOk result (λ v. Reads (flag_lem text.now) reader.old reader.new (flag_view v)) }
+fn flag(text: &Text<'_>, reader: &mut Reader<'_>) -> Option<At<CCell>>
+    requires { IsDueIn text.now (nonterminals.flag_setting ∷ []) reader.old }
+    ensures { Reads (raw.flag text.now) reader.old reader.new (flag_view result) }
 {
-    match reader.row()? {
+    match reader.row() {
         row::FLAG_SETTING => {
-            reader.pass(7)?;
-            let cell = placed_cell(text, reader)?;
-            reader.pass(4)?;
-            Ok(Some(cell))
+            reader.pass(7);
+            let cell = placed_cell(text, reader);
+            reader.pass(4);
+            Some(cell)
         }
-        row::NO_FLAG_SETTING => Ok(None),
-        _ => Err(AllocError),
+        row::NO_FLAG_SETTING => None,
+        _ => unreachable!(),
     }
 }
 
@@ -111,39 +117,42 @@ pub(crate) fn access_rows(
     text: &Text<'_>,
     reader: &mut Reader<'_>,
 ) -> Result<Vec<RawAccess>, AllocError>
-    ensures { IfOk result (λ v. Reads (access_lem text.now) reader.old reader.new (map access_view v.items)) }
+    requires { IsDueIn text.now (nonterminals.access_rows ∷ []) reader.old }
+    ensures { IfOk result (λ v. Reads (raw.access text.now) reader.old reader.new (map access_view v.items)) }
 {
     let mut list = Vec::new(alloc);
     loop {
-        match reader.row()? {
+        match reader.row() {
             row::ACCESS_ROWS => {
-                let access = access_row(text, reader)?;
+                let access = access_row(text, reader);
                 list.push(access)?;
             }
             row::NO_ACCESS_ROWS => return Ok(list),
-            _ => return Err(AllocError),
+            _ => unreachable!(),
         }
     }
 }
 
 /// An access row, whose row was taken, up to those behind it.
-fn access_row(text: &Text<'_>, reader: &mut Reader<'_>) -> Result<RawAccess, AllocError>
-    ensures { IfOk result (λ v. ReadsElement access_rows_row (access_row_lem text.now) reader.old reader.new (access_view v)) }
+fn access_row(text: &Text<'_>, reader: &mut Reader<'_>) -> RawAccess
+    requires { AreDueIn text.now (row_symbols access_rows_row) reader.old }
+    ensures read { ReadsElement access_rows_row (raw.access_row text.now) reader.old reader.new (access_view result) }
+    ensures due { IsDueIn text.now (nonterminals.access_rows ∷ []) reader.new }
 {
-    reader.pass(4)?;
-    let id = placed_number(text, reader)?;
-    let instance = instance_test(reader)?;
-    reader.pass(2)?;
-    let flag = flag(text, reader)?;
-    reader.pass(2)?;
-    let cell = placed_cell(text, reader)?;
-    reader.pass(2)?;
-    Ok(RawAccess {
+    reader.pass(4);
+    let id = placed_number(text, reader);
+    let instance = instance_test(reader);
+    reader.pass(2);
+    let flag = flag(text, reader);
+    reader.pass(2);
+    let cell = placed_cell(text, reader);
+    reader.pass(2);
+    RawAccess {
         id,
         instance,
         flag,
         cell,
-    })
+    }
 }
 
 /// The two structs of a module: their fields, and the sizes of the instance's arrays.
@@ -160,22 +169,23 @@ pub(crate) fn two_structs(
     text: &Text<'_>,
     reader: &mut Reader<'_>,
 ) -> Result<Structs, AllocError>
+    requires { IsDueIn text.now (nonterminals.structs ∷ []) reader.old }
     ensures { IfOk result (λ v. Reads (structs_of text.now) reader.old reader.new (structs_view v)) }
 {
-    reader.take(row::STRUCTS)?;
-    reader.pass(6)?;
+    reader.take(row::STRUCTS);
+    reader.pass(6);
     let model_fields = fields(alloc, text, reader)?;
-    reader.pass(9)?;
-    let node = placed_number(text, reader)?;
-    reader.pass(6)?;
-    let jr = placed_number(text, reader)?;
-    reader.pass(6)?;
-    let jq = placed_number(text, reader)?;
-    reader.pass(5)?;
-    let col = placed_number(text, reader)?;
-    reader.pass(5)?;
+    reader.pass(9);
+    let node = placed_number(text, reader);
+    reader.pass(6);
+    let jr = placed_number(text, reader);
+    reader.pass(6);
+    let jq = placed_number(text, reader);
+    reader.pass(5);
+    let col = placed_number(text, reader);
+    reader.pass(5);
     let inst_fields = fields(alloc, text, reader)?;
-    reader.pass(3)?;
+    reader.pass(3);
     Ok(Structs {
         model_fields,
         sizes: RawSizes { node, jr, jq, col },

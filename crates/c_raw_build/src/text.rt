@@ -1,12 +1,15 @@
 //! The tokens of a text, and what numbers, names and strings stand for.
-ghost use Rattle.std.specs.Prelude.{◌≡◌, ◌+◌, ◌-◌, ◌++◌, IfOk, OnOk, map, get_or, slice_get, Some};
+ghost use Rattle.std.specs.Prelude.{◌≡◌, ◌<◌, ◌≤◌, ◌^◌, ◌+◌, ◌-◌, ◌++◌, true, length, IfOk, OnOk, map, get_or, slice_get, Some};
 ghost use Rattle.c_raw.specs.Blocks.{at_view};
 ghost use Rattle.std.specs.List.{prefix_len};
 ghost use Rattle.va_base.specs.Numerals.{number_of};
 ghost use Rattle.va_base.specs.Spelling.{is_digit};
+ghost use Rattle.c_tree.specs.Spelling.{are_bytes};
 ghost use Rattle.c_syntax.specs.grammar.Kinds.{is_no_digit};
+ghost use Rattle.c_raw_build.specs.Due.{HasOneOf, IsOfKind, IsThere, AreThere};
 ghost use Rattle.c_raw_build.specs.Reading.{number_seen};
-ghost use Rattle.c_raw_build.specs.Words.{word_at, number_at, function_at as function_at_lem, real_at, field_at, field_lettered as field_lettered_lem, first_len, second_number as second_number_lem, letters_of, library_functions, library_function_at, octal as octal_lem, string_bytes as string_bytes_lem, between_quotes as between_quotes_lem, string_at, has_module_number as has_module_number_lem, first_number as first_number_lem, module_number as module_number_lem, module_numbers_of, module_numbers as module_numbers_lem};
+ghost use Rattle.c_raw_build.specs.TokenKinds as token_kinds;
+ghost use Rattle.c_raw_build.specs.Words as words;
 
 use alg_laws::{Fun1, Fun2};
 use c_raw::At;
@@ -84,84 +87,94 @@ impl<'a> Text<'a> {
         Text { bytes, tokens }
     }
 
-    /// The bytes of the token with this index. Where there is none, or it lies outside the text, which no parse tree asks for, it
-    /// answers as it does for want of memory.
-    pub(crate) fn word(&self, at: u32) -> Result<&'a [u8], AllocError>
-        ensures { IfOk result (λ word. word.now ≡ word_at self.now at) }
+    /// The bytes of the token with this index.
+    pub(crate) fn word(&self, at: u32) -> &'a [u8]
+        requires { IsThere self.now at }
+        ensures { result.now ≡ words.word_at self.now at }
     {
-        let token = self.tokens.get(at as usize).ok_or(AllocError)?;
-        let behind = self.bytes.get(token.first as usize..).ok_or(AllocError)?;
-        let word = behind.get(..token.len as usize).ok_or(AllocError)?;
-        Ok(word)
+        let token = &self.tokens[at as usize];
+        let behind = &self.bytes[token.first as usize..];
+        &behind[..token.len as usize]
     }
 
     /// The number that the digits of a token give.
-    pub(crate) fn number(&self, at: u32) -> Result<u32, AllocError>
-        ensures { IfOk result (λ n. n ≡ number_at self.now at) }
+    pub(crate) fn number(&self, at: u32) -> u32
+        requires { HasOneOf self.now at token_kinds.numbers }
+        ensures { result ≡ words.number_at self.now at }
     {
-        let word = self.word(at)?;
+        let word = self.word(at);
         number(word)
     }
 
     /// The second number of a name `fn_0_1`.
     #[tactic(auto, unfolding(crate::specs::Words::function_at))]
-    pub(crate) fn function(&self, at: u32) -> Result<u32, AllocError>
-        ensures { IfOk result (λ n. n ≡ function_at_lem self.now at) }
+    pub(crate) fn function(&self, at: u32) -> u32
+        requires { HasOneOf self.now at token_kinds.module_functions }
+        ensures { result ≡ words.function_at self.now at }
     {
-        let word = self.word(at)?;
+        let word = self.word(at);
         second_number(word)
     }
 
     /// The exact value of a real.
     #[tactic(auto, unfolding(crate::specs::Words::real_at))]
-    pub(crate) fn real(&self, at: u32) -> Result<Decimal, AllocError>
-        ensures { IfOk result (λ d. d ≡ real_at self.now at) }
+    pub(crate) fn real(&self, at: u32) -> Decimal
+        requires { HasOneOf self.now at token_kinds.reals }
+        ensures { result ≡ words.real_at self.now at }
     {
-        let word = self.word(at)?;
-        decimal(word).ok_or(AllocError)
+        let word = self.word(at);
+        match decimal(word) {
+            Some(value) => value,
+            None => unreachable!(),
+        }
     }
 
     /// The field that a token names.
     #[tactic(auto, unfolding(crate::specs::Words::field_at))]
-    pub(crate) fn field(&self, at: u32) -> Result<CField, AllocError>
-        ensures { IfOk result (λ f. f ≡ field_at self.now at) }
+    pub(crate) fn field(&self, at: u32) -> CField
+        requires { HasOneOf self.now at token_kinds.fields }
+        ensures { result ≡ words.field_at self.now at }
     {
-        let word = self.word(at)?;
-        let number = number(word)?;
-        Ok(field_lettered(letters(word), number))
+        let word = self.word(at);
+        let number = number(word);
+        field_lettered(letters(word), number)
     }
 
     /// The function of C's library that a token names.
     #[tactic(auto, unfolding(crate::specs::Words::library_function_at))]
-    pub(crate) fn library_function(&self, at: u32) -> Result<CCallee, AllocError>
-        ensures { IfOk result (λ f. f ≡ library_function_at self.now at) }
+    pub(crate) fn library_function(&self, at: u32) -> CCallee
+        requires { HasOneOf self.now at token_kinds.library_functions }
+        ensures { result ≡ words.library_function_at self.now at }
     {
-        let word = self.word(at)?;
-        Ok(library_callee(place_of(functions(), word).unwrap_or(0)))
+        let word = self.word(at);
+        library_callee(place_of(functions(), word).unwrap_or(0))
     }
 
     /// The bytes that a string stands for.
     #[tactic(auto, unfolding(crate::specs::Words::string_at))]
     pub(crate) fn string(&self, alloc: Global, at: u32) -> Result<Name, AllocError>
-        ensures { IfOk result (λ name. name ≡ string_at self.now at) }
+        requires { HasOneOf self.now at token_kinds.strings }
+        ensures { IfOk result (λ name. name ≡ words.string_at self.now at) }
     {
-        let word = self.word(at)?;
+        let word = self.word(at);
         let bytes = string_bytes(alloc, between_quotes(word))?;
         Ok(Name::new(bytes))
     }
 
     /// The module's number in the token with this index, if it holds one.
-    fn module_number(&self, at: u32) -> Result<Option<u32>, AllocError>
-        ensures { IfOk result (λ v. number_seen at v ≡ module_numbers_of self.now at (slice_get self.now.tokens at)) }
+    fn module_number(&self, at: u32) -> Option<u32>
+        requires { IsThere self.now at }
+        ensures { number_seen at result ≡ words.module_numbers_of self.now at (slice_get self.now.tokens at) }
     {
-        let token = self.tokens.get(at as usize).ok_or(AllocError)?;
-        let word = self.word(at)?;
+        let Some(token) = self.tokens.get(at as usize) else {
+            unreachable!();
+        };
+        let word = self.word(at);
         let kind = kind_of(token.kind, word);
         if !has_module_number(kind) {
-            return Ok(None);
+            return None;
         }
-        let number = module_number(kind, word)?;
-        Ok(Some(number))
+        Some(module_number(kind, word))
     }
 
     /// The module's number in each C name among the tokens from `first` on, up to the one before `end`.
@@ -171,12 +184,13 @@ impl<'a> Text<'a> {
         first: u32,
         end: u32,
     ) -> Result<Vec<At<u32>>, AllocError>
-        ensures { IfOk result (λ v. map at_view v.items ≡ module_numbers_lem self.now first (end - first)) }
+        requires { AreThere self.now first end }
+        ensures { IfOk result (λ v. map at_view v.items ≡ words.module_numbers self.now first (end - first)) }
     {
         let mut numbers = Vec::new(alloc);
         let mut at = first;
         'tokens: while at < end {
-            let value = self.module_number(at)?;
+            let value = self.module_number(at);
             push_number(&mut numbers, at, value)?;
             at += 1;
         }
@@ -196,7 +210,7 @@ fn push_number(numbers: &mut Vec<At<u32>>, at: u32, value: Option<u32>) -> Resul
 
 /// The function of C's library with this place among their names.
 fn library_callee(place: usize) -> CCallee
-    ensures { result ≡ get_or library_functions place (CCallee.Fun1 Fun1.Exp) }
+    ensures { result ≡ get_or words.library_functions place (CCallee.Fun1 Fun1.Exp) }
 {
     if place < LIBRARY.len() {
         LIBRARY[place]
@@ -205,38 +219,40 @@ fn library_callee(place: usize) -> CCallee
     }
 }
 
-/// The number that the digits among some bytes give. One that is too large, which no token holds, is answered as want of memory.
-pub(crate) fn number(bytes: &[u8]) -> Result<u32, AllocError>
-    ensures { IfOk result (λ n. n ≡ number_of bytes.now) }
+/// The number that the digits among some bytes give.
+pub(crate) fn number(bytes: &[u8]) -> u32
+    requires { number_of bytes.now < 2 ^ 32 }
+    ensures { result ≡ number_of bytes.now }
 {
     let mut number: u32 = 0;
     for byte in bytes {
         if byte.is_ascii_digit() {
-            let tens = number.checked_mul(10).ok_or(AllocError)?;
-            number = tens.checked_add(u32::from(*byte - b'0')).ok_or(AllocError)?;
+            number = 10 * number + u32::from(*byte - b'0');
         }
     }
-    Ok(number)
+    number
 }
 
 /// The second number of a name `fn_0_1`.
-fn second_number(word: &[u8]) -> Result<u32, AllocError>
-    ensures { IfOk result (λ n. n ≡ second_number_lem word.now) }
+fn second_number(word: &[u8]) -> u32
+    requires name { 3 ≤ length word.now }
+    requires fits { words.second_number word.now < 2 ^ 32 }
+    ensures { result ≡ words.second_number word.now }
 {
-    let numbers = word.get(3..).ok_or(AllocError)?;
+    let numbers = &word[3..];
     number(&numbers[front_len::<Digit>(numbers)..])
 }
 
 /// What stands before the first digit.
 fn letters(word: &[u8]) -> &[u8]
-    ensures { result.now ≡ letters_of word.now }
+    ensures { result.now ≡ words.letters_of word.now }
 {
     &word[..front_len::<NoDigit>(word)]
 }
 
 /// A field by its letters and its number.
 fn field_lettered(letters: &[u8], number: u32) -> CField
-    ensures { result ≡ field_lettered_lem letters.now number }
+    ensures { result ≡ words.field_lettered letters.now number }
 {
     match letters {
         b"p" => CField::Param(number),
@@ -252,25 +268,29 @@ fn field_lettered(letters: &[u8], number: u32) -> CField
 }
 
 /// The first number of a name `fn_0_1`.
-fn first_number(word: &[u8]) -> Result<u32, AllocError>
-    ensures { IfOk result (λ n. n ≡ first_number_lem word.now) }
+fn first_number(word: &[u8]) -> u32
+    requires name { 3 ≤ length word.now }
+    requires fits { words.first_number word.now < 2 ^ 32 }
+    ensures { result ≡ words.first_number word.now }
 {
-    let numbers = word.get(3..).ok_or(AllocError)?;
+    let numbers = &word[3..];
     number(&numbers[..front_len::<Digit>(numbers)])
 }
 
 /// Whether names of this kind hold a module's number.
 #[tactic(auto, unfolding(crate::specs::Words::has_module_number))]
 fn has_module_number(kind: u16) -> bool
-    ensures { result ≡ has_module_number_lem kind }
+    ensures { result ≡ words.has_module_number kind }
 {
     MODULE_FUNCTION <= kind && kind <= LAST_NUMBERED
 }
 
 /// The module's number in a name of this kind.
 #[tactic(auto, unfolding(crate::specs::Words::module_number))]
-fn module_number(kind: u16, word: &[u8]) -> Result<u32, AllocError>
-    ensures { IfOk result (λ n. n ≡ module_number_lem kind word.now) }
+fn module_number(kind: u16, word: &[u8]) -> u32
+    requires of_kind { IsOfKind kind word.now }
+    requires numbered { words.has_module_number kind ≡ true }
+    ensures { result ≡ words.module_number kind word.now }
 {
     if kind == MODULE_FUNCTION {
         first_number(word)
@@ -281,7 +301,7 @@ fn module_number(kind: u16, word: &[u8]) -> Result<u32, AllocError>
 
 /// What stands between the quotes of a string.
 fn between_quotes(word: &[u8]) -> &[u8]
-    ensures { result.now ≡ between_quotes_lem word.now }
+    ensures { result.now ≡ words.between_quotes word.now }
 {
     if word.len() < 2 {
         &[]
@@ -290,24 +310,26 @@ fn between_quotes(word: &[u8]) -> &[u8]
     }
 }
 
-/// The byte that three octal digits give. A larger number, which no string holds, is answered as want of memory is.
-fn octal(a: u8, b: u8, c: u8) -> Result<u8, AllocError>
-    ensures { IfOk result (λ byte. byte ≡ octal_lem a b c) }
+/// The byte that three octal digits give.
+fn octal(a: u8, b: u8, c: u8) -> u8
+    requires { words.octal a b c < 256 }
+    ensures { result ≡ words.octal a b c }
 {
     let digit = |byte: u8| u32::from(byte.saturating_sub(b'0'));
-    u8::try_from(64 * digit(a) + 8 * digit(b) + digit(c)).or(Err(AllocError))
+    (64 * digit(a) + 8 * digit(b) + digit(c)) as u8
 }
 
 /// The bytes that a string stands for, of which these stand between its quotes.
 fn string_bytes(alloc: Global, quoted: &[u8]) -> Result<Vec<u8>, AllocError>
-    ensures { IfOk result (λ v. v.items ≡ string_bytes_lem quoted.now) }
+    requires { are_bytes (words.string_bytes quoted.now) ≡ true }
+    ensures { IfOk result (λ v. v.items ≡ words.string_bytes quoted.now) }
 {
     let mut bytes = Vec::new(alloc);
     let mut rest = quoted;
     loop {
         match rest {
             [b'\\', a, b, c, more @ ..] => {
-                bytes.push(octal(*a, *b, *c)?)?;
+                bytes.push(octal(*a, *b, *c))?;
                 rest = more;
             }
             [byte, more @ ..] => {

@@ -1,11 +1,16 @@
-use Rattle.std.specs.Prelude.{◌++◌, length, map}
+use Rattle.std.specs.Prelude.{◌++◌, length, map, [], ◌∷◌}
 use Rattle.c_raw.specs.Blocks.{at_view}
-use Rattle.c_raw_build.specs.RawTables.{more_factors as more_factors_lem}
+use Rattle.c_raw_build.specs.RawTables.{more_factors}
 use Rattle.c_raw_build.specs.Reading.{ReadsOn}
+use Rattle.c_raw_build.specs.Due.{IsDueIn}
+use Rattle.c_raw_build.specs.Nonterminals as nonterminals
 use Rattle.c_raw_build.proofs.loads.more_factors.Given as goal
 
-abbrev pub invariant-loop-list : goal.invariant-loop-list
-invariant-loop-list l = ReadsOn (λ p. map at_view l.list.items ++ (more_factors_lem l.text) p) (more_factors_lem l.text) l.initial.reader l.reader
+abbrev pub invariant-loop-reader : goal.invariant-loop-reader
+invariant-loop-reader l = record {
+  read : ReadsOn (λ p. map at_view l.list.items ++ (more_factors l.text) p) (more_factors l.text) l.initial.reader l.reader;
+  due : IsDueIn l.text (nonterminals.more_factors ∷ []) l.reader;
+}
 
-abbrev pub decreases-loop-list : goal.decreases-loop-list
-decreases-loop-list l = length l.reader.nodes
+abbrev pub decreases-loop-reader : goal.decreases-loop-reader
+decreases-loop-reader l = length l.reader.nodes

@@ -1,11 +1,16 @@
-use Rattle.std.specs.Prelude.{◌++◌, length, map}
-use Rattle.c_raw_build.specs.RawTables.{param_rows as param_rows_lem}
+use Rattle.std.specs.Prelude.{◌++◌, length, map, [], ◌∷◌}
+use Rattle.c_raw_build.specs.RawTables.{param_rows}
 use Rattle.c_raw.specs.Views.{param_view}
 use Rattle.c_raw_build.specs.Reading.{ReadsOn}
+use Rattle.c_raw_build.specs.Due.{IsDueIn}
+use Rattle.c_raw_build.specs.Nonterminals as nonterminals
 use Rattle.c_raw_build.proofs.tables.param_rows.Given as goal
 
-abbrev pub invariant-loop-list : goal.invariant-loop-list
-invariant-loop-list l = ReadsOn (λ p. map param_view l.list.items ++ (param_rows_lem l.text) p) (param_rows_lem l.text) l.initial.reader l.reader
+abbrev pub invariant-loop-reader : goal.invariant-loop-reader
+invariant-loop-reader l = record {
+  read : ReadsOn (λ p. map param_view l.list.items ++ (param_rows l.text) p) (param_rows l.text) l.initial.reader l.reader;
+  due : IsDueIn l.text (nonterminals.param_rows ∷ nonterminals.param_row ∷ []) l.reader;
+}
 
-abbrev pub decreases-loop-list : goal.decreases-loop-list
-decreases-loop-list l = length l.reader.nodes
+abbrev pub decreases-loop-reader : goal.decreases-loop-reader
+decreases-loop-reader l = length l.reader.nodes

@@ -2,7 +2,7 @@
 use Rattle.std.proofs.Common.{◌≡◌, ◌≤◌, ◌+◌, ◌-◌, ◌*◌, ◌^◌, ℕ, suc, List, [], ◌∷◌, ◌++◌, take, drop, refl, ap, sym, subst, ◌∙◌, arith, Some, None, eqb-true}
 use Rattle.std.specs.Prelude.{Bool, true, false, not, ◌==◌, ◌&&◌, if◌then◌else◌, nat_le, fold, cond}
 use Rattle.std.specs.List.{list_all, prefix_len, filter}
-use Rattle.std.specs.Option.{unwrap_or}
+use Rattle.std.specs.Option.{is_some, unwrap_or}
 use Rattle.std.proofs.lemmas.Bool.{and_parts, and_from, lt-ltb}
 use Rattle.std.proofs.lemmas.Bool.Decides.{nat_tests}
 use Rattle.std.proofs.lemmas.List.{take-append-drop, append-nil}
@@ -16,14 +16,13 @@ use Rattle.c_tree.specs.Spelling.{is_unsigned, is_integer}
 use Rattle.c_tree.specs.declared.token.CTokenKind.{CTokenKind}
 use Rattle.c_tree.specs.declared.token.CTokenKind.TheVariants.{Include, Word as OfWord, Field, Integer, Unsigned, Real, Text, Mark}
 use Rattle.c_tree.specs.tokens.Spelling.{is_token, token_kind, number_kind, tail_kind, is_number_rest, is_number_tail}
-use Rattle.c_tree.specs.tokens.Limits.{has_no_leading_zero, is_at_most, digits_of, tail_of, is_tail_within, is_within}
+use Rattle.c_tree.specs.tokens.Limits.{has_no_leading_zero, is_at_most, digits_of, tail_of, is_plain_power, is_tail_within, is_within}
 use Rattle.c_syntax.specs.grammar.Kinds.{is_number_in_name, is_no_digit}
 use Rattle.c_syntax.proofs.Longest.{cond_true, cond_false}
 use Rattle.c_raw_build.specs.Words.{number_zero}
-use Rattle.c_law_words.proofs.Digits.{front_taken}
-use Rattle.c_law_words.proofs.Numbers.{weaker}
-use Rattle.c_law_spelled.proofs.Rows.{IsOfKind}
-use Rattle.c_law_spelled.proofs.WordKinds.{may_have, all_kinds, token_is}
+use Rattle.c_raw_build.proofs.Fronts.{front_taken, weaker}
+use Rattle.c_raw_build.specs.Due.{IsOfKind}
+use Rattle.c_raw_build.proofs.WordKinds.{may_have, all_kinds, token_is}
 
 -- bytes that pass, as many as stand in front
 pub front_all : (p : ℕ → Bool) (xs : List ℕ) → list_all p (take (prefix_len p xs) xs) ≡ true
@@ -106,6 +105,16 @@ is_unsigned_token Unsigned = true
 is_unsigned_token Real = false
 is_unsigned_token Text = false
 is_unsigned_token Mark = false
+
+abbrev is_real_token : CTokenKind → Bool
+is_real_token Include = false
+is_real_token OfWord = false
+is_real_token Field = false
+is_real_token Integer = false
+is_real_token Unsigned = false
+is_real_token Real = true
+is_real_token Text = false
+is_real_token Mark = false
 
 pub rest_kind : (xs : List ℕ) → number_kind xs ≡ tail_kind (tail_of xs)
 rest_kind [] = refl
@@ -213,6 +222,24 @@ unsigned_value k w only h = unsigned_found k w (token_is Unsigned k w only h) h
 
 pub integer_value : (k : ℕ) (w : Word) → filter (λ kind. may_have kind k) all_kinds ≡ Integer ∷ [] → IsOfKind k w → is_integer (number_of w) ≡ true
 integer_value k w only h = integer_found k w (token_is Integer k w only h) h
+
+real_tail : (w : Word) (tail : List ℕ) → tail_kind tail ≡ Real → is_tail_within w (digits_of w) tail ≡ true → is_some (decimal_of w) ≡ true
+real_tail w [] k h = absurd (true_not_false (ap is_real_token k) refl)
+real_tail w (d ∷ power) k h = by_test (d == 117) k h
+  where
+    by_test : (u : Bool) → (if u then Unsigned else Real) ≡ Real → (if u then is_at_most 4294967295 (decimal_of (digits_of w)) else is_plain_power power && is_some (decimal_of w)) ≡ true
+        → is_some (decimal_of w) ≡ true
+    by_test true k h = absurd (true_not_false (ap is_real_token k) refl)
+    by_test false k h = (and_parts (is_plain_power power) (is_some (decimal_of w)) h).1
+
+real_found : (w : Word) → token_kind w ≡ Real → IsOfKind 10 w → is_some (decimal_of w) ≡ true
+real_found w t h =
+    let n = number_word w Real refl t h.token in
+    real_tail w (tail_of w) n.tail_is (within_tail w (h.within n.digit))
+
+-- a real within the limits has a value
+pub real_spelled : (w : Word) → IsOfKind 10 w → is_some (decimal_of w) ≡ true
+real_spelled w h = real_found w (token_is Real 10 w refl h) h
 
 pub real_value : (w : Word) → is_within_limits (unwrap_or (decimal_of w) number_zero) ≡ true
 unfolding decimal_of

@@ -12,9 +12,9 @@ use Rattle.c_tree.specs.tokens.Spelling.{is_token, token_kind, number_kind, tail
 use Rattle.c_tree.specs.tokens.Limits.{tail_of}
 use Rattle.c_syntax.proofs.Longest.{cond_true, cond_false}
 use Rattle.c_raw_build.specs.Words.{octal, string_bytes, between_quotes}
-use Rattle.c_law_spelled.proofs.Rows.{IsOfKind}
-use Rattle.c_law_spelled.proofs.WordKinds.{token_is}
-use Rattle.c_law_spelled.proofs.Numbers.{le_of, rest_kind}
+use Rattle.c_raw_build.specs.Due.{IsOfKind}
+use Rattle.c_raw_build.proofs.WordKinds.{token_is}
+use Rattle.c_raw_build.proofs.Numbers.{le_of, rest_kind}
 
 plain_first : (a : ℕ) (rest : List ℕ) → (a == 92) ≡ false → string_bytes (a ∷ rest) ≡ a ∷ string_bytes rest
 plain_first a [] h = refl

@@ -15,7 +15,7 @@ use Rattle.c_tree.specs.declared.token.CTokenKind.TheVariants.{Include, Word as 
 use Rattle.c_tree.specs.tokens.Spelling.{token_kind}
 use Rattle.c_syntax.specs.grammar.Names.{mark_names, word_names, field_names, place_of, one_further}
 use Rattle.c_syntax.specs.grammar.Kinds.{is_number_in_name, are_two_numbers, is_no_digit, numbered_names, numbered_kinds, kind_with_place, function_kind, numbered_kind, function_names, kind_from, plain_word_kind, word_kind, kind_of}
-use Rattle.c_law_spelled.proofs.Rows.{IsOfKind}
+use Rattle.c_raw_build.specs.Due.{IsOfKind}
 
 -- a name stands at the place that is found for it
 pub place_holds : (names : List Word) (w : Word) (i : ℕ) → place_of names w ≡ Some i → slice_get names i ≡ Some w
