@@ -152,7 +152,7 @@ pub record WorkedLoads : Type 0 where
         matrix =
             1 ∷ minus 1 ∷ 736101 ∷ minus 736101 ∷ minus 1 ∷ minus 736101 ∷ 736102 ∷ 0 ∷ 0 ∷ 1 ∷ minus 1 ∷ 0 ∷ minus 1 ∷ 1 ∷ [];
       })
-  pub a_run : is_run (settings ++ evaluation ++ all_loads) ≡ true
+  pub a_run : is_run 1 (settings ++ evaluation ++ all_loads) ≡ true
   -- where a and ai are one, the flow of the junction leaves a
   pub residuals_as_one : after diode 0 (load_residual_resist ∷ []) collapsed
       ≡ gives (record collapsed { vector = 648010 ∷ minus 647980 ∷ 30 ∷ [] })

@@ -99,7 +99,7 @@ pub record WorkedLoads : Type 0 where
         vector = 19 ∷ 11 ∷ minus 65 ∷ [];
         matrix = 2 ∷ minus 2 ∷ 2 ∷ minus 2 ∷ minus 12 ∷ 0 ∷ 0 ∷ 0 ∷ 0 ∷ minus 12 ∷ [];
       })
-  pub a_run : is_run (settings ++ evaluation ++ all_loads) ≡ true
+  pub a_run : is_run 0 (settings ++ evaluation ++ all_loads) ≡ true
   -- 10 - 5 at c, 20 + 6 at the flow and 30 + 5 at a; and the right side's -2, -1 and 2 there
   pub residuals_elsewhere : after inductor 0 (load_residual_resist ∷ []) (elsewhere evaluated)
       ≡ gives (record (elsewhere evaluated) { vector = 5 ∷ 26 ∷ 35 ∷ [] })

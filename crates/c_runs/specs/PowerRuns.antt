@@ -81,6 +81,6 @@ pub record WorkedLoads : Type 0 where
   -- a whole run: 10 + 8 + 40 + 40, and twice 12
   pub all_together : after power_source 3 (of_degree (pos 3) ++ evaluation 2 ++ all_loads) start
       ≡ gives (record cube { vector = 98 ∷ []; matrix = 24 ∷ [] })
-  pub a_run : is_run (of_degree (pos 3) ++ evaluation 2 ++ all_loads) ≡ true
+  pub a_run : is_run 0 (of_degree (pos 3) ++ evaluation 2 ++ all_loads) ≡ true
   -- before an evaluation the cells of a new instance are 0
   pub before_evaluations : after power_source 0 (load_residual_resist ∷ load_jacobian_resist ∷ []) start ≡ gives start

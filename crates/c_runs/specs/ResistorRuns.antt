@@ -103,7 +103,7 @@ pub record WorkedLoads : Type 0 where
   -- a whole run: 0 + 3 + 1 + 1 and 5 - 3 - 1 - 1, and each entry twice
   pub all_together : after resistor 0 (of_resistance (Real 2) ++ evaluation ++ all_loads) start
       ≡ gives (record evaluated { vector = 5 ∷ 0 ∷ []; matrix = 1 ∷ minus 1 ∷ minus 1 ∷ 11 ∷ [] })
-  pub a_run : is_run (of_resistance (Real 2) ++ evaluation ++ all_loads) ≡ true
+  pub a_run : is_run 0 (of_resistance (Real 2) ++ evaluation ++ all_loads) ≡ true
   -- what leaves a enters c, so nothing is left where both are at one place
   pub at_one_place : after resistor 0 (load_residual_resist ∷ []) (record evaluated { node = 1 ∷ 1 ∷ [] })
       ≡ gives (record evaluated { node = 1 ∷ 1 ∷ [] })

@@ -105,7 +105,7 @@ pub record DepthsOfFunctions (V : Type 0) (o : Operations V) (valid : V → Type
 
 -- Where a module keeps to a set of biased variables, two defined evaluations at points that differ in unknowns alone end with the
 -- same fixed variables and the same marks of collapsing branches. Every module of a text keeps to those that are found by the rules.
--- So set-up may find the collapse flags.
+-- So defined evaluations agree on the collapse flags; of one that is undefined nothing is said.
 pub record FixedOfEvaluations (V : Type 0) (o : Operations V) (valid : V → Type 0) : Type 0 where
   pub evaluation : (M : Elaborated) (biased : ℕ → Bool) → KeepsToBias M biased → (s : V) (P : Point V) (n : ℕ) (answers unknowns : ℕ → V)
       → (last other : State V) → evaluated M (over o s P n answers) ≡ gives last
