@@ -1,11 +1,10 @@
 -- What names give: the numbers in them, the fields that they name, and the functions.
-use Rattle.std.proofs.Common.{◌≡◌, inl, inr, ◌<◌, ◌+◌, ◌^◌, ℕ, zero, suc, List, [], ◌∷◌, ◌++◌, take, drop, get_or, refl, ap, sym, subst, ◌∙◌, arith, Some, None, Option, eqb-true, eq-eqb}
-use Rattle.std.specs.Prelude.{Bool, true, false, not, ◌==◌, ◌&&◌, ◌||◌, if◌then◌else◌, nat_eq, decimal, codes, slice_get}
-use Rattle.std.specs.List.{list_all, list_any, prefix_len, filter}
-use Rattle.std.specs.Option.{unwrap_or, is_some}
+use Rattle.std.proofs.Common.{◌≡◌, inl, inr, ◌<◌, ◌^◌, ℕ, zero, suc, List, [], ◌∷◌, drop, get_or, refl, ap, sym, subst, ◌∙◌, arith, Some, None, Option, eq-eqb}
+use Rattle.std.specs.Prelude.{Bool, true, false, not, ◌==◌, ◌&&◌, ◌||◌, if◌then◌else◌, decimal, codes, slice_get}
+use Rattle.std.specs.List.{list_all, list_any, prefix_len}
+use Rattle.std.specs.Option.{unwrap_or}
 use Rattle.std.specs.Str.{bytes_eq}
 use Rattle.std.proofs.lemmas.Bool.{and_parts, and_from, or_cases, ltb-true}
-use Rattle.std.proofs.lemmas.List.{take-append-drop}
 use Rattle.std.proofs.lemmas.Slice.Eq.{bytes_eq-Decides}
 use Rattle.va_base.specs.Spelling.{is_digit}
 use Rattle.va_base.specs.Numerals.{number_of}
@@ -18,16 +17,14 @@ use Rattle.c_tree.specs.declared.body.CCallee.TheVariants as callee
 use Rattle.c_tree.specs.declared.body.CField.TheVariants.{Param, Given, Resist, React, EntryResist, EntryReact, OpVar, Stored, Temperature}
 use Rattle.alg_laws.specs.declared.function.Fun1.TheVariants.{Exp}
 use Rattle.c_tree.specs.declared.token.CTokenKind.TheVariants.{Word as OfWord}
-use Rattle.c_tree.specs.tokens.Spelling.{token_kind}
-use Rattle.c_syntax.specs.grammar.Names.{word_names, place_of}
-use Rattle.c_syntax.specs.grammar.Kinds.{is_number_in_name, is_second_number, is_no_digit, numbered_names, numbered_kinds, kind_with_place, numbered_kind, function_names, kind_from, plain_word_kind, kind_of}
-use Rattle.c_raw_build.specs.Words.{second_number, letters_of, field_lettered, library_functions}
+use Rattle.c_syntax.specs.grammar.Names.{place_of}
+use Rattle.c_syntax.specs.grammar.Kinds.{is_no_digit, numbered_names, numbered_kinds, kind_with_place, function_names}
+use Rattle.c_raw_build.specs.Words.{letters_of, field_lettered, library_functions}
 use Rattle.c_law_words.proofs.Digits.{IsDecimal, decimal_written}
 use Rattle.c_law_words.specs.Values.{field_in, library_function}
 use Rattle.c_raw_build.specs.Due.{IsOfKind}
 use Rattle.c_raw_build.proofs.NameNumbers.{name_value, numbered_found, temp_word}
-use Rattle.c_raw_build.proofs.WordKinds.{place_holds, got_passes, may_have, all_kinds, token_is, is_plain_kind, plain_kind, is_numbered_kind, numbered_has, numbered_cases, listed_kind}
-use Rattle.c_raw_build.proofs.Numbers.{front_all, digits_behind, name_number}
+use Rattle.c_raw_build.proofs.WordKinds.{place_holds, got_passes, token_is, numbered_cases}
 use Rattle.c_law_words.proofs.Pieces.{◌▹◌}
 
 -- Fields.

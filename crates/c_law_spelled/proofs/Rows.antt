@@ -5,16 +5,11 @@ use Rattle.std.specs.List.{list_all, filter}
 use Rattle.std.proofs.lemmas.Bool.{and_from, and_parts, or_cases}
 use Rattle.std.proofs.lemmas.List.{length-append}
 use Rattle.va_base.proofs.Longest.{some_none, some_same}
-use Rattle.va_base.specs.Spelling.{is_digit, begins}
 use Rattle.predict.specs.declared.symbol.Symbol.{Symbol}
 use Rattle.predict.specs.declared.symbol.Symbol.TheVariants.{Kind, Left}
 use Rattle.predict.specs.Tree.{Tree, Parts, node, no_parts, token, subtree, spelling, spelling_of}
 use Rattle.predict.specs.FirstFit.{Written}
 use Rattle.c_tree.specs.Spelling.{EachHas}
-use Rattle.c_tree.specs.Words.{Word}
-use Rattle.c_tree.specs.tokens.Spelling.{is_token, token_kind}
-use Rattle.c_tree.specs.tokens.Limits.{is_within}
-use Rattle.c_syntax.specs.grammar.Kinds.{kind_of}
 use Rattle.c_raw_build.specs.Due.{IsOfKind}
 use Rattle.c_raw_build.specs.Placed.{Placed, width, width_of, end, row_of, is_of, parts_of, subtree_at, part, has_subtree, spine, spine_of, elements, elements_of_two, before_first, elements_before}
 use Rattle.c_raw_build.specs.Words.{CText, word_at}

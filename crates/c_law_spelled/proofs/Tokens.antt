@@ -1,24 +1,18 @@
 -- The tokens of a text: each is spelled as its kind asks. So a tree of its tokens is a tree of rows over their words.
-use Rattle.std.proofs.Common.{◌≡◌, ◌≤◌, ◌+◌, ℕ, zero, suc, List, [], ◌∷◌, length, take, drop, refl, ap, sym, subst, ◌∙◌, arith, Some, None, Option}
+use Rattle.std.proofs.Common.{◌≡◌, ◌≤◌, ◌+◌, ℕ, zero, suc, List, [], ◌∷◌, length, refl, ap, sym, subst, ◌∙◌, arith, Some, None, Option}
 use Rattle.std.specs.Prelude.{Bool, true, false, if◌then◌else◌, slice_get, map}
 use Rattle.std.proofs.lemmas.List.{append_cancel_right}
-use Rattle.va_base.proofs.Longest.{some_none, some_same, IsLongest-from}
-use Rattle.va_base.proofs.Tests.{true_not_false}
-use Rattle.va_base.specs.Longest.{longest}
-use Rattle.va_base.specs.Spelling.{is_digit, begins}
 use Rattle.predict.specs.declared.symbol.Symbol.{Symbol}
 use Rattle.predict.specs.declared.symbol.Symbol.TheVariants.{Kind, Left}
 use Rattle.predict.specs.Tree.{Tree, Parts, node, no_parts, token, subtree, spelling, spelling_of}
 use Rattle.predict.specs.Sentence.{first, IsTreeOf, ArePartsOf, IsSentenceOf}
 use Rattle.c_tree.specs.Spelling.{EachHas}
 use Rattle.c_tree.specs.declared.token.CToken.{CToken}
-use Rattle.c_tree.specs.tokens.Spelling.{is_separator, is_token, token_kind}
-use Rattle.c_tree.specs.tokens.Limits.{is_within}
-use Rattle.c_tree.specs.tokens.Tokens.{limited, front_len, CTokens, tokens_at, less_one, tokens_from, c_tokens_of, bytes_of}
+use Rattle.c_tree.specs.tokens.Spelling.{is_separator}
+use Rattle.c_tree.specs.tokens.Tokens.{front_len, CTokens, tokens_at, less_one, tokens_from, c_tokens_of, bytes_of}
 use Rattle.c_syntax.specs.Syntax.{text_kinds}
 use Rattle.c_syntax.specs.grammar.Kinds.{kind_of, kind_in}
 use Rattle.c_syntax.specs.grammar.Sets.{c_grammar, c_rules}
-use Rattle.c_syntax.proofs.Longest.{drop-drop}
 use Rattle.c_syntax.proofs.Tables.{row_written}
 use Rattle.c_raw_build.specs.Words.{CText, word_of, word_at}
 use Rattle.c_raw_build.proofs.Tokens.{IsGood, tokens_good}
