@@ -89,7 +89,7 @@ module _ (name : Bytes) (scope : List Declared) (same : (d e : Declared) → Has
 
 -- a declaration that counts is the first of its name
 stands_first : (at : ℕ) (o : Option Declared) → stands_at at o ≡ true → (d : Declared) → o ≡ Some d → at ≡ d.at
-stands_first at None h d e = absurd (cc (h))
+stands_first at None h d e = absurd (false≢true h)
 stands_first at (Some x) h d e = sym (eqb-true x.at at h) ∙ ap (λ (y : Declared). y.at) (let same : x ≡ d = cc (e) in same)
 
 module _ (m : Module) (own : HasOwnDeclarations m) where
