@@ -14,7 +14,6 @@ use Rattle.alg_laws.specs.declared.number.Ty.TheVariants.{Integer, Real}
 use Rattle.va_tree.specs.declared.expr.Callee.TheVariants as callee
 use Rattle.va_tree.specs.declared.module.Module.{Module}
 use Rattle.va_tree.specs.Expressions.{Expression, Arguments, literal, infinity, name, group, unary, binary, choose, call, no_more, text_then, expression_then}
-use Rattle.va_sem.specs.declared.builtin.SystemFunction.{SystemFunction}
 use Rattle.va_sem.specs.declared.builtin.SystemFunction.TheVariants.{Temperature, ThermalVoltage, Limit, SimParam, ParamGiven}
 use Rattle.va_sem.specs.declared.builtin.SystemName.{SystemName}
 use Rattle.va_sem.specs.declared.builtin.SystemName.TheVariants as system
@@ -24,9 +23,9 @@ use Rattle.va_sem.specs.declared.names.NameUse.{NameUse}
 use Rattle.va_sem.specs.Builtins.{system_name_of}
 use Rattle.va_sem.specs.Declarations.{VariableEntry, ParameterEntry, variables_of, parameters_of, functions_of}
 use Rattle.va_sem.specs.LookedAt.{looked_at, looked_at_in_arguments, looks, call_looks}
-use Rattle.va_sem.specs.Typing.{Typing, meaning_at, type_of_meaning, either_type, type_of_unary, type_of_binary, type_of_called, type_of_system, type_of_call, arguments_fit, type_of, types_of_arguments, parameter_number, parameter_read, reads_for_type, is_in, leads_back, default_type_or, parameter_types, signature_of, typing_of}
+use Rattle.va_sem.specs.Typing.{Typing, meaning_at, type_of_meaning, either_type, type_of_unary, type_of_binary, type_of_called, type_of_system, arguments_fit, type_of, types_of_arguments, parameter_number, parameter_read, reads_for_type, is_in, leads_back, default_type_or, parameter_types, signature_of}
 use Rattle.va_sem.specs.TypingLaws.{ParametersHaveTypes}
-use Rattle.va_sem.proofs.Contained.{Has, has_left, has_right}
+use Rattle.va_sem.proofs.Contained.{Has}
 
 -- how many of the numbers below n a set has
 abbrev one_if : Bool → ℕ

@@ -8,7 +8,7 @@ use Rattle.va_tree.specs.declared.source.Source.{Source}
 use Rattle.va_tree.specs.Declarations.{declared}
 use Rattle.va_tree.specs.Expressions.{Expression, Arguments, literal, infinity, name, group, unary, binary, choose, call, no_more, text_then, expression_then}
 use Rattle.va_tree.specs.Parts.{Part, expression, statement, attributes_parts, body_parts, module_parts}
-use Rattle.va_tree.specs.Preorder.{expressions_in, expressions_of_part, expressions_of_source}
+use Rattle.va_tree.specs.Preorder.{expressions_of_part, expressions_of_source}
 use Rattle.va_tree.specs.Statements.{Statement, Statements, Items, Defaults, null, block, only_if, if_else, cases, for_loop, while_loop, repeat_loop, event, assign, contribute, task, no_more as no_statement, statement_then, no_items, item_then, no_defaults, default_then}
 use Rattle.va_sem.specs.declared.names.ModuleNames.{ModuleNames}
 use Rattle.va_sem.specs.declared.names.NameUse.{NameUse}
