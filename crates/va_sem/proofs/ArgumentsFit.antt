@@ -1,5 +1,5 @@
 -- The arguments of a call without faults of its own fit.
-use Rattle.std.specs.Prelude.{◌≡◌, ℕ, ◌+◌, ◌&&◌, Bool, true, false, not, List, [], ◌++◌}
+use Rattle.std.specs.Prelude.{◌≡◌, ℕ, ◌+◌, ◌&&◌, Bool, true, false, not, List, []}
 use Rattle.std.proofs.Common.{refl}
 use Rattle.va_base.specs.declared.fault.FaultCode.{FaultCode}
 use Rattle.va_base.specs.declared.fault.FaultCode.TheVariants.{ArgumentCount, ArgumentKind}

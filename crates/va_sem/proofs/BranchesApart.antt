@@ -1,24 +1,22 @@
 -- Each pair of nodes has one unnamed branch.
-use Rattle.std.specs.Prelude.{◌≡◌, ◌≢◌, ◌⊎◌, ℕ, zero, suc, ◌==◌, ◌&&◌, ◌||◌, nat_le, not, Bool, true, false, List, [], ◌∷◌, ◌++◌, filter, filter_map, flat_map, map, Option, Some, None, option_map, if◌then◌else◌}
+use Rattle.std.specs.Prelude.{◌≡◌, ◌≢◌, ◌⊎◌, ℕ, zero, suc, ◌==◌, ◌&&◌, ◌||◌, nat_le, not, Bool, true, false, List, [], ◌∷◌, ◌++◌, filter, filter_map, flat_map, Option, Some, None, option_map, if◌then◌else◌}
 use Rattle.std.specs.Option.{is_some}
 use Rattle.std.specs.List.{AllByRecursion, cons_option, slice_get}
-use Rattle.std.proofs.Common.{refl, sym, ap, subst, ◌∙◌, inl, inr}
+use Rattle.std.proofs.Common.{refl, sym, ap, ◌∙◌, inl, inr}
 use Rattle.std.proofs.lemmas.Bool.{false≢true}
 use Rattle.std.proofs.lemmas.Bool.Decides.{eqb_tells}
 use Rattle.va_tree.specs.declared.name.NameAt.{NameAt}
 use Rattle.va_tree.specs.declared.module.Item.{Item}
 use Rattle.va_tree.specs.declared.module.ItemBody.{ItemBody}
 use Rattle.va_tree.specs.declared.module.ItemBody.TheVariants.{Nodes, Direction, Branch, Parameters, Alias, Variables, Function, Analog}
-use Rattle.va_tree.specs.declared.module.Module.{Module}
-use Rattle.va_tree.specs.declared.source.Source.{Source}
 use Rattle.va_sem.specs.Branches.{BranchEntry, branch_of, branch_between, named_branches, node_meant, same_node, same_direction, same_pair, used_branch, first_uses, unnamed_branches}
 use Rattle.va_sem.specs.BranchesLaws.{are_one, UnnamedBranchesAreApart}
 use Rattle.va_sem.specs.Lookup.{Bytes}
 use Rattle.va_sem.specs.Meanings.{known_of, node_tokens}
 use Rattle.va_sem.specs.Scopes.{Declared, module_scope}
-use Rattle.va_sem.specs.Sites.{Ends, one, two, neither, Site, ends_written}
+use Rattle.va_sem.specs.Sites.{Ends, one, two, neither, ends_written}
 use Rattle.va_sem.specs.TextOrder.{put_in, in_text_order}
-use Rattle.va_sem.proofs.Contained.{Has, all_of_has, has_of_all, all_left, all_join, all_flat_has, all_filter, all_in_order, index_has}
+use Rattle.va_sem.proofs.Contained.{has_of_all, all_flat_has, all_filter, all_in_order, index_has}
 
 swap_and : (a b : Bool) → a && b ≡ b && a
 swap_and true true = refl

@@ -19,6 +19,7 @@ pub mod NameUses
 pub mod NumberedNames
 pub mod OneFault
 pub mod OwnTokens
+pub mod ParameterTypes
 pub mod Places
 pub mod RuleLaws
 pub mod ScopesByName

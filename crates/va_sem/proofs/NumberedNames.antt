@@ -25,12 +25,12 @@ use Rattle.va_sem.specs.Declarations.{VariableEntry, ParameterEntry, FunctionEnt
 use Rattle.va_sem.specs.Disciplines.{NatureEntry, DisciplineEntry, accesses_of, natures_of, natures_after, nature_entry, nature_before, parent_of, disciplines_of, discipline_entry, discipline_before}
 use Rattle.va_sem.specs.Lookup.{Bytes}
 use Rattle.va_sem.specs.Meanings.{Known, Target, known_of, node_tokens, branch_tokens, discipline_tokens, nature_tokens, thing_meaning, declared_meaning, called_meaning, named_target, alone_target, pair_target, access_meaning, access_to, target_of, is_flow_of, discipline_of_branch, discipline_meaning, meaning_of, meaning_by_role, use_at, module_uses, discipline_number, names_of_module, nature_meaning, own_nature_meaning, own_discipline_meaning, nature_use, nature_uses, discipline_item_uses, discipline_uses, names_of}
-use Rattle.va_sem.specs.MeaningsLaws.{AreNumbered, AreNumberedFunctions, AreNumberedNodes, AreNumberedParameters, AreNumberedAccesses, AreDisciplines, AreNatures, NamesAreNumbered}
+use Rattle.va_sem.specs.MeaningsLaws.{AreNumbered, AreNumberedFunctions, AreNumberedNodes, AreNumberedParameters, AreNumberedAccesses, AreDisciplines, NamesAreNumbered}
 use Rattle.va_sem.specs.Scopes.{Thing, Declared, node, branch, parameter, variable, function, label, alias, nothing, named}
 use Rattle.va_sem.specs.Sites.{Ends, one, two, neither, Role, declares, reads, assigns, calls, accesses, contributes, end, alone, directs, aliased, discipline, calls_system, task_name, infinite, Site, is_access, seen}
 use Rattle.va_sem.specs.TextOrder.{in_text_order, number_at}
 use Rattle.va_sem.specs.Typing.{meaning_at}
-use Rattle.va_sem.proofs.Contained.{Has, From, all_join, has_left, has_right, has_flat, has_append, has_map, has_of_all, from_flat, from_map, from_order, into_order, placed}
+use Rattle.va_sem.proofs.Contained.{Has, all_join, has_left, has_right, has_flat, has_append, has_map, has_of_all, from_flat, from_map, from_order, into_order, placed}
 use Rattle.va_sem.proofs.NameUses.{used_at, used_is}
 use Rattle.va_sem.proofs.ScopesKept.{AreKept, MaybeKept, found}
 use Rattle.va_sem.proofs.ScopesOf.{HoldsOfModule, branch_names, scope_kept}

@@ -1,5 +1,5 @@
 -- The names of a module are names of its text, each once.
-use Rattle.std.specs.Prelude.{◌≡◌, ◌⊎◌, ℕ, zero, suc, ◌+◌, Bool, true, false, List, [], ◌∷◌, ◌++◌, map, flat_map, Contains, Option, Some, None, option_to_list, if◌then◌else◌}
+use Rattle.std.specs.Prelude.{◌≡◌, ℕ, zero, suc, ◌+◌, Bool, true, false, List, [], ◌∷◌, ◌++◌, map, flat_map, Option, Some, None, option_to_list, if◌then◌else◌}
 use Rattle.std.specs.List.{slice_get}
 use Rattle.std.proofs.Common.{refl, sym, ap, subst, ◌∙◌, arith, inl, inr}
 use Rattle.std.proofs.lemmas.List.{append-nil}
@@ -23,14 +23,14 @@ use Rattle.va_tree.specs.Declarations.{if_there}
 use Rattle.va_tree.specs.Expressions.{Expression, Arguments, literal, infinity, name, group, unary, binary, choose, call, no_more, text_then, expression_then, expression_of}
 use Rattle.va_tree.specs.OwnTokens.{tokens_of, names_in, names_in_arguments, names_in_variable, names_in_declaration, names_in_statement, names_in_statements, names_in_items, names_in_defaults, names_in_attributes, names_in_nature, names_in_discipline, names_in_interval, names_in_range, names_in_parameter, names_in_function_item, names_in_body, names_in_item, names_in_module, names_in_source, EachNameHasItsToken}
 use Rattle.va_tree.specs.Statements.{Statement, Statements, Items, Defaults, null, block, only_if, if_else, cases, for_loop, while_loop, repeat_loop, event, assign, contribute, task, no_more as no_statement, statement_then, no_items, item_then, no_defaults, default_then, statement_of}
-use Rattle.va_sem.specs.Declarations.{FunctionEntry, item_functions}
+use Rattle.va_sem.specs.Declarations.{FunctionEntry}
 use Rattle.va_sem.specs.Disciplines.{accesses_of, natures_of}
 use Rattle.va_sem.specs.LookedAt.{call_looks}
 use Rattle.va_sem.specs.Lookup.{Bytes}
 use Rattle.va_sem.specs.OwnTokens.{HasOwnTokens, NamesHaveOwnTokens}
 use Rattle.va_sem.specs.Scopes.{block_scope}
-use Rattle.va_sem.specs.Sites.{Ends, one, two, neither, Role, declares, assigns, calls, accesses, end, discipline, directs, Around, Site, site, site_of, is_access, looked_at_where, seeing, ends_of, ends_written, end_sites, expression_sites, argument_sites, bound_sites, variable_sites, declaration_sites, statement_sites, statements_sites, item_sites, default_sites, interval_sites, range_sites, parameter_sites, in_function, function_item_sites, function_sites, body_sites, in_module, module_sites}
-use Rattle.va_sem.proofs.Contained.{Has, has_left, has_right, Place, has_place, index_has, contained_has}
+use Rattle.va_sem.specs.Sites.{Role, declares, calls, accesses, end, discipline, directs, Around, Site, site, site_of, is_access, looked_at_where, seeing, ends_of, ends_written, end_sites, expression_sites, argument_sites, bound_sites, variable_sites, declaration_sites, statement_sites, statements_sites, item_sites, default_sites, interval_sites, range_sites, parameter_sites, function_item_sites, function_sites, body_sites, in_module, module_sites}
+use Rattle.va_sem.proofs.Contained.{Has, has_left, has_place, index_has, contained_has}
 
 -- names that stand, in this order, at some of these tokens
 data Sub : List Site → List ℕ → Type 0 where

@@ -1,8 +1,8 @@
 -- What is found under a name in the scopes of a module.
-use Rattle.std.specs.Prelude.{◌≡◌, ◌⊎◌, ℕ, ◌==◌, ◌<◌, not, Bool, true, false, List, [], ◌∷◌, ◌++◌, map, filter, find, length, Contains, Option, Some, None, option_map, if◌then◌else◌}
+use Rattle.std.specs.Prelude.{◌≡◌, ℕ, not, Bool, true, false, List, filter, length, Option, Some, None, option_map, if◌then◌else◌}
 use Rattle.std.specs.Option.{option_or}
 use Rattle.std.specs.Str.{bytes_eq}
-use Rattle.std.proofs.Common.{refl, sym, ap, subst, ◌∙◌, inl, inr}
+use Rattle.std.proofs.Common.{refl, sym, ap, ◌∙◌}
 use Rattle.std.proofs.lemmas.Bool.{eqb-true, eq-eqb, false≢true}
 use Rattle.std.proofs.lemmas.List.Folds.{find-append}
 use Rattle.std.proofs.lemmas.Slice.Eq.{bytes_eq-Decides}
@@ -13,7 +13,7 @@ use Rattle.va_sem.specs.Lookup.{Bytes}
 use Rattle.va_sem.specs.Scopes.{Thing, Declared, node, branch, parameter, variable, function, label, alias, nothing, is_builtin, named, stands_at, is_first, counting, parameter_by, alias_seen, seen_by_thing, is_seen_in_functions, module_names, block_names, function_names, module_scope, block_scope, function_scope}
 use Rattle.va_sem.specs.ScopesLaws.{first_named, seen_in, if_seen, HasOwnDeclarations, ScopesByName}
 use Rattle.va_sem.proofs.AliasSteps.{steps_enough}
-use Rattle.va_sem.proofs.Contained.{Has, From, from_map, has_contained, has_of_filter}
+use Rattle.va_sem.proofs.Contained.{Has, from_map, has_contained, has_of_filter}
 use Rattle.va_sem.proofs.FoundFirst.{find_passes, find_kept, find_none, find_dropped, find_mapped}
 use Rattle.va_sem.proofs.NumberedNames.{find_has}
 
@@ -89,7 +89,7 @@ module _ (name : Bytes) (scope : List Declared) (same : (d e : Declared) → Has
 
 -- a declaration that counts is the first of its name
 stands_first : (at : ℕ) (o : Option Declared) → stands_at at o ≡ true → (d : Declared) → o ≡ Some d → at ≡ d.at
-stands_first at None h d e = absurd (cc (h))
+stands_first at None h d e = absurd (false≢true h)
 stands_first at (Some x) h d e = sym (eqb-true x.at at h) ∙ ap (λ (y : Declared). y.at) (let same : x ≡ d = cc (e) in same)
 
 module _ (m : Module) (own : HasOwnDeclarations m) where

@@ -1,6 +1,5 @@
 -- What holds of each thing that a module declares holds of all that is seen in it.
-use Rattle.std.specs.Prelude.{ℕ, zero, suc, List, [], ◌∷◌, ◌++◌, map, flat_map, length, Option, Some, None, option_and_then}
-use Rattle.std.specs.List.{AllByRecursion}
+use Rattle.std.specs.Prelude.{ℕ, zero, suc, List, [], ◌++◌, map, flat_map, length, Option, Some, None, option_and_then}
 use Rattle.std.specs.Prelude.{◌≡◌}
 use Rattle.std.proofs.Common.{refl, sym, subst, inl}
 use Rattle.va_tree.specs.declared.name.NameAt.{NameAt}

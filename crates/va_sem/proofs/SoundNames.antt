@@ -1,32 +1,31 @@
 -- In a text without faults of names each name has a meaning of the kind that its place wants.
-use Rattle.std.specs.Prelude.{◌≡◌, ◌⊎◌, ℕ, ◌<◌, not, Bool, true, false, List, [], ◌∷◌, ◌++◌, ◌+◌, map, flat_map, filter_map, length, Option, Some, None, option_map, option_and_then, option_to_list}
+use Rattle.std.specs.Prelude.{◌≡◌, ℕ, ◌<◌, not, Bool, true, false, List, [], ◌∷◌, ◌++◌, ◌+◌, map, flat_map, filter_map, length, Option, Some, None, option_map, option_and_then, option_to_list}
 use Rattle.std.proofs.Common.{refl, sym, ap, subst, ◌∙◌, inl, inr}
 use Rattle.std.proofs.lemmas.Bool.{false≢true}
 use Rattle.std.proofs.lemmas.List.{length-map}
 use Rattle.va_base.specs.declared.fault.FaultCode.{FaultCode}
-use Rattle.va_base.specs.declared.fault.FaultCode.TheVariants.{UnknownName, WrongKind, OutOfProfile}
+use Rattle.va_base.specs.declared.fault.FaultCode.TheVariants.{WrongKind}
 use Rattle.va_tree.specs.declared.name.NameAt.{NameAt}
 use Rattle.va_tree.specs.declared.module.Item.{Item}
 use Rattle.va_tree.specs.declared.module.ItemBody.{ItemBody}
 use Rattle.va_tree.specs.declared.module.ItemBody.TheVariants.{Nodes, Direction, Branch, Parameters, Alias, Variables, Function, Analog}
 use Rattle.va_tree.specs.declared.module.Module.{Module}
 use Rattle.va_tree.specs.declared.source.Source.{Source}
-use Rattle.va_sem.specs.declared.builtin.Builtin.{Builtin}
 use Rattle.va_sem.specs.declared.names.BranchName.{BranchName}
 use Rattle.va_sem.specs.declared.names.Meaning.TheVariants as means
-use Rattle.va_sem.specs.Branches.{BranchEntry, node_number, node_meant, branch_of, branch_between, named_branches, unnamed_branches, node_entries}
-use Rattle.va_sem.specs.Builtins.{builtins, builtin_of, builtin_row}
+use Rattle.va_sem.specs.Branches.{BranchEntry, node_number, node_meant, branch_of, branch_between, named_branches, unnamed_branches}
+use Rattle.va_sem.specs.Builtins.{builtins}
 use Rattle.va_sem.specs.Declarations.{functions_of}
 use Rattle.va_sem.specs.Disciplines.{DisciplineEntry, accesses_of, natures_of, discipline_before}
 use Rattle.va_sem.specs.Lookup.{Bytes, place_of, words_of, entry_at}
 use Rattle.va_sem.specs.Meanings.{Known, known_of, node_tokens, branch_tokens, thing_meaning, declared_meaning, called_meaning, discipline_meaning, meaning_of, meaning_by_role, names_of_module}
 use Rattle.va_sem.specs.MeaningsLaws.{is_wanted, SoundNamesHaveMeanings}
-use Rattle.va_sem.specs.NamesFaults.{FaultAt, fault_if, fits, thing_faults, builtin_faults, call_faults, discipline_faults, lacks_nature, thing_of, role_faults, site_faults, twice_in_module, port_faults, branch_item_faults, cycle_faults, calls_of, module_names_faults, text_names_faults, nature_faults, discipline_item_faults, names_faults}
+use Rattle.va_sem.specs.NamesFaults.{FaultAt, fault_if, fits, thing_faults, builtin_faults, call_faults, discipline_faults, thing_of, role_faults, site_faults, twice_in_module, port_faults, branch_item_faults, cycle_faults, calls_of, module_names_faults, text_names_faults, nature_faults, discipline_item_faults, names_faults}
 use Rattle.va_sem.specs.Scopes.{Thing, Declared, node, branch, parameter, variable, function, label, alias, nothing, named, module_scope}
-use Rattle.va_sem.specs.Sites.{Ends, one, two, Role, declares, reads, assigns, calls, accesses, contributes, end, alone, directs, aliased, discipline, calls_system, task_name, infinite, Around, Site, site_of, seen, ends_written, in_module, body_sites}
-use Rattle.va_sem.specs.TextOrder.{in_text_order, number_at}
+use Rattle.va_sem.specs.Sites.{Role, declares, reads, assigns, calls, accesses, contributes, end, alone, directs, aliased, discipline, calls_system, task_name, infinite, Around, Site, site_of, seen, ends_written, in_module, body_sites}
+use Rattle.va_sem.specs.TextOrder.{number_at}
 use Rattle.va_sem.specs.Typing.{meaning_at}
-use Rattle.va_sem.proofs.Contained.{Has, has_left, has_right, has_flat, has_filter_map, has_map, into_order, from_map, contained_has, left_empty, right_empty, each_empty, placed}
+use Rattle.va_sem.proofs.Contained.{Has, has_left, has_right, has_flat, has_filter_map, has_map, into_order, from_map, contained_has, left_empty, right_empty, each_empty}
 use Rattle.va_sem.proofs.NumberedNames.{number_below, meaning_below}
 use Rattle.va_sem.proofs.ScopesOf.{branch_names}
 

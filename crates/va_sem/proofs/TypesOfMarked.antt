@@ -1,7 +1,7 @@
 -- The types of a module are those of its expressions, in order.
-use Rattle.std.specs.Prelude.{◌≡◌, ℕ, ◌+◌, ◌&&◌, Bool, true, false, List, [], ◌∷◌, ◌++◌, map, flat_map, if◌then◌else◌}
+use Rattle.std.specs.Prelude.{◌≡◌, ℕ, ◌+◌, Bool, true, false, List, [], ◌∷◌, ◌++◌, map, flat_map, if◌then◌else◌}
 use Rattle.std.proofs.Common.{refl, ap, sym, ◌∙◌}
-use Rattle.std.proofs.lemmas.List.{map-append, append-nil}
+use Rattle.std.proofs.lemmas.List.{map-append}
 use Rattle.std.proofs.lemmas.Grind.{flat_map-append}
 use Rattle.alg_laws.specs.declared.number.Ty.{Ty}
 use Rattle.alg_laws.specs.declared.number.Ty.TheVariants.{Real}
@@ -12,10 +12,9 @@ use Rattle.va_tree.specs.Expressions.{Expression, Arguments, literal, infinity, 
 use Rattle.va_tree.specs.Parts.{Part, expression, statement, attributes_parts, body_parts, item_parts, module_parts}
 use Rattle.va_tree.specs.Preorder.{expressions_in, expressions_in_arguments, expressions_of_statement, expressions_of_statements, expressions_of_items, expressions_of_defaults, expressions_of_part}
 use Rattle.va_tree.specs.Statements.{Statement, Statements, Items, Defaults, null, block, only_if, if_else, cases, for_loop, while_loop, repeat_loop, event, assign, contribute, task, no_more as no_statement, statement_then, no_items, item_then, no_defaults, default_then}
-use Rattle.va_sem.specs.declared.names.ModuleNames.{ModuleNames}
 use Rattle.va_sem.specs.LookedAt.{looked_at, looked_at_in_arguments, call_looks}
-use Rattle.va_sem.specs.Typing.{Typing, typing_of, type_of, all_real, types_in, types_in_arguments, types_in_statement, types_in_statements, types_in_items, types_in_defaults, types_in_part, no_types, types_in_item, types_in_module}
-use Rattle.va_sem.specs.TypingLaws.{Marked, marked, marked_in_arguments, marked_in, marked_in_statements, marked_in_items, marked_in_defaults, marked_in_part, unmarked, marked_in_item, marked_in_module, type_of_marked, if_looked_at, TypesAreOfExpressions}
+use Rattle.va_sem.specs.Typing.{Typing, typing_of, type_of, all_real, types_in, types_in_arguments, types_in_statement, types_in_statements, types_in_items, types_in_defaults, types_in_part, no_types, types_in_item}
+use Rattle.va_sem.specs.TypingLaws.{Marked, marked, marked_in_arguments, marked_in, marked_in_statements, marked_in_items, marked_in_defaults, marked_in_part, marked_in_item, marked_in_module, type_of_marked, if_looked_at, TypesAreOfExpressions}
 
 -- A list of marked expressions, with their expressions and their types.
 record Lists (t : Typing) (es : List Expression) (tys : List Ty) (ms : List Marked) : Type 0 where

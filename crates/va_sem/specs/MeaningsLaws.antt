@@ -9,7 +9,7 @@ use Rattle.va_sem.specs.declared.names.ModuleNames.{ModuleNames}
 use Rattle.va_sem.specs.declared.names.NameUse.{NameUse}
 use Rattle.va_sem.specs.Meanings.{known_of, meaning_of, names_of, names_of_module}
 use Rattle.va_sem.specs.NamesFaults.{names_faults}
-use Rattle.va_sem.specs.Sites.{Ends, Role, declares, reads, assigns, calls, accesses, contributes, end, alone, directs, aliased, discipline, calls_system, task_name, infinite, Site}
+use Rattle.va_sem.specs.Sites.{Role, declares, reads, assigns, calls, accesses, contributes, end, alone, directs, aliased, discipline, calls_system, task_name, infinite, Site}
 use Rattle.va_sem.specs.Typing.{meaning_at}
 
 abbrev pub IsInTextOrder : List NameUse → Type 0

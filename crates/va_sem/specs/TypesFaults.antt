@@ -1,12 +1,11 @@
 -- The faults of types: which code stands at which token. Expressions that aren't looked at have none.
-use Rattle.std.specs.Prelude.{ℕ, ◌+◌, Bool, true, false, not, ◌==◌, ◌&&◌, ◌||◌, nat_lt, List, [], ◌∷◌, ◌++◌, length, flat_map, Option, Some, None, if◌then◌else◌}
+use Rattle.std.specs.Prelude.{ℕ, ◌+◌, Bool, true, false, not, ◌&&◌, ◌||◌, nat_lt, List, [], ◌∷◌, ◌++◌, flat_map, Option, Some, None}
 use Rattle.std.specs.List.{enumerate_from}
 use Rattle.alg_laws.specs.declared.number.Ty.{Ty}
 use Rattle.alg_laws.specs.declared.number.Ty.TheVariants.{Integer, Real}
 use Rattle.va_base.specs.declared.fault.FaultCode.TheVariants.{ArgumentCount, ArgumentKind, NotConstant, RealOperand}
 use Rattle.va_tree.specs.declared.expr.BinaryOp.{BinaryOp}
 use Rattle.va_tree.specs.declared.expr.BinaryOp.TheVariants.{Remainder}
-use Rattle.va_tree.specs.declared.expr.Callee.{Callee}
 use Rattle.va_tree.specs.declared.expr.Callee.TheVariants as callee
 use Rattle.va_tree.specs.declared.source.Source.{Source}
 use Rattle.va_tree.specs.declared.module.ItemBody.{ItemBody}
@@ -26,7 +25,6 @@ use Rattle.va_sem.specs.declared.names.ModuleNames.{ModuleNames}
 use Rattle.va_sem.specs.declared.names.NameUse.{NameUse}
 use Rattle.va_sem.specs.declared.names.Meaning.{Meaning}
 use Rattle.va_sem.specs.declared.names.Meaning.TheVariants as means
-use Rattle.va_sem.specs.Lookup.{Bytes}
 use Rattle.va_sem.specs.Builtins.{builtin_at, Taken, taken_at, string_fits, system_name_of}
 use Rattle.va_sem.specs.LookedAt.{looked_at, looked_at_in_statement}
 use Rattle.va_sem.specs.Walks.{block_declarations}

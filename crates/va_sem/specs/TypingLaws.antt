@@ -1,5 +1,5 @@
 -- Which types a text has: each expression that is looked at its own, each other one real.
-use Rattle.std.specs.Prelude.{◌≡◌, ℕ, ◌+◌, ◌&&◌, Bool, true, false, List, [], ◌∷◌, ◌++◌, length, map, flat_map, if◌then◌else◌}
+use Rattle.std.specs.Prelude.{◌≡◌, ℕ, ◌+◌, ◌&&◌, Bool, true, false, List, [], ◌∷◌, ◌++◌, Some, length, map, flat_map, slice_get, if◌then◌else◌}
 use Rattle.alg_laws.specs.declared.number.Ty.{Ty}
 use Rattle.alg_laws.specs.declared.number.Ty.TheVariants.{Real}
 use Rattle.va_tree.specs.declared.module.Item.{Item}
@@ -8,12 +8,14 @@ use Rattle.va_tree.specs.declared.source.Source.{Source}
 use Rattle.va_tree.specs.Declarations.{declared}
 use Rattle.va_tree.specs.Expressions.{Expression, Arguments, literal, infinity, name, group, unary, binary, choose, call, no_more, text_then, expression_then}
 use Rattle.va_tree.specs.Parts.{Part, expression, statement, attributes_parts, body_parts, module_parts}
-use Rattle.va_tree.specs.Preorder.{expressions_in, expressions_of_part, expressions_of_source}
+use Rattle.va_tree.specs.Preorder.{expressions_of_part, expressions_of_source}
 use Rattle.va_tree.specs.Statements.{Statement, Statements, Items, Defaults, null, block, only_if, if_else, cases, for_loop, while_loop, repeat_loop, event, assign, contribute, task, no_more as no_statement, statement_then, no_items, item_then, no_defaults, default_then}
 use Rattle.va_sem.specs.declared.names.ModuleNames.{ModuleNames}
+use Rattle.va_sem.specs.declared.names.NameUse.{NameUse}
+use Rattle.va_sem.specs.Declarations.{ParameterEntry, parameters_of}
 use Rattle.va_sem.specs.LookedAt.{looked_at, call_looks}
 use Rattle.va_sem.specs.Meanings.{names_of}
-use Rattle.va_sem.specs.Typing.{Typing, typing_of, type_of, types_of, types_in_module}
+use Rattle.va_sem.specs.Typing.{Typing, typing_of, type_of, types_of, types_in_module, leads_back, reads_for_type, default_type_or}
 
 -- each expression of a text has a type
 abbrev pub EachHasAType : Type 0
@@ -96,3 +98,9 @@ pub record TypesAreOfExpressions : Type 0 where
   pub expressions : (m : Module) → map (λ (x : Marked). x.1) (marked_in_module m) ≡ flat_map expressions_of_part (module_parts m)
   pub types : (names : ModuleNames) (m : Module) → types_in_module names m ≡ map (type_of_marked (typing_of names.uses m)) (marked_in_module m)
   pub looked : (e : Expression) → flat_map if_looked_at (marked true e) ≡ looked_at e
+
+-- Each parameter has the type that its declaration gives: the one that is written, else real where its default leads back to it, else
+-- that of its default, by these very types.
+pub record ParametersHaveTypes : Type 0 where
+  pub own : (uses : List NameUse) (m : Module) (k : ℕ) (p : ParameterEntry) → slice_get (parameters_of m) k ≡ Some p
+      → slice_get (typing_of uses m).parameters k ≡ Some (default_type_or (typing_of uses m) (leads_back (map (reads_for_type uses) (parameters_of m)) k) p p.ty)

@@ -1,6 +1,6 @@
 //! Laws of the definitions, as contracts.
 ghost use Rattle.va_sem.specs.FaultsLaws.{LeastByParts, LeastIsAnswered, OneFaultIsAnswered};
-ghost use Rattle.va_sem.specs.TypingLaws.{EachHasAType, TypesAreOfExpressions};
+ghost use Rattle.va_sem.specs.TypingLaws.{EachHasAType, ParametersHaveTypes, TypesAreOfExpressions};
 ghost use Rattle.va_sem.specs.MeaningsLaws.{NamesAreNumbered, SoundNamesHaveMeanings, UsesAreInTextOrder};
 ghost use Rattle.va_sem.specs.BranchesLaws.{UnnamedBranchesAreApart};
 ghost use Rattle.va_sem.specs.OwnTokens.{NamesHaveOwnTokens};
@@ -24,6 +24,12 @@ pub fn one_fault_is_answered()
 /// `Typed` has one type for each expression of a text.
 pub fn each_expression_has_a_type()
     ensures { EachHasAType }
+{}
+
+/// Each parameter of a module has its written type, else that of its default, by the types that the parameters have; where its
+/// default leads back to it, it is real.
+pub fn parameters_have_types()
+    ensures { ParametersHaveTypes }
 {}
 
 /// In the order of a module's expressions each one that is looked at has its type there, and each other one is real.
