@@ -1,4 +1,6 @@
 pub mod Ascending
+pub mod BranchFacts
+pub mod BranchSets
 pub mod Contained
 pub mod Covering
 pub mod Earliest
@@ -23,3 +25,4 @@ pub mod Surveying
 pub mod TypesListed
 pub mod Visiting
 pub mod Walks
+pub mod VariablesReached
