@@ -2,6 +2,8 @@ pub mod AliasSteps
 pub mod ArgumentsFit
 pub mod Ascending
 pub mod BranchesApart
+pub mod BranchFacts
+pub mod BranchSets
 pub mod Contained
 pub mod Covering
 pub mod Earliest
@@ -35,3 +37,4 @@ pub mod TypesListed
 pub mod TypesOfMarked
 pub mod Visiting
 pub mod Walks
+pub mod VariablesReached

@@ -1,6 +1,8 @@
 pub mod Attributes
 pub mod Biased
+pub mod BranchFacts
 pub mod BranchKinds
+pub mod Coverage
 pub mod Dependence
 pub mod Faults
 pub mod Findings
@@ -8,6 +10,7 @@ pub mod Influence
 pub mod Limits
 pub mod ModuleBody
 pub mod ModuleTables
+pub mod ReachLaws
 pub mod RuleLaws
 pub mod SmallModule
 pub mod SureContributions

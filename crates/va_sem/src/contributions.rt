@@ -1,18 +1,21 @@
 //! The contributions of a module, and what they make of a branch.
-ghost use Rattle.std.specs.Prelude.{◌≡◌, ◌==◌, ◌&&◌, not, ◌++◌, ◌∷◌, [], flat_map, IfOk};
-ghost use Rattle.std.specs.List.{list_any, list_all};
+ghost use Rattle.std.specs.Prelude.{◌≡◌, ℕ, ◌||◌, ◌++◌, flat_map, nat_eq, IfOk};
+ghost use Rattle.std.specs.HashSet as bag;
+ghost use Rattle.std.specs.List.{list_any};
 ghost use Rattle.std.specs.Ordering.{nat_cmp};
 ghost use Rattle.std.specs.BTreeMap as tree;
 ghost use Rattle.va_sem.specs.TextOrder.{in_text_order};
-ghost use Rattle.va_sem.specs.rules.BranchKinds.{always_contributes};
-ghost use Rattle.va_sem.specs.rules.Findings.{given_in, flow_to, potential_to, collapses_if_to as may_collapse_branch, reads_flow_of, kind_by, blocks_of};
+ghost use Rattle.va_sem.specs.rules.BranchFacts.{tells, is_this, kind_told, AreFacts};
+ghost use Rattle.va_sem.specs.rules.BranchFacts as spec;
+ghost use Rattle.va_sem.specs.rules.Findings.{given_in, blocks_of};
 
 use crate::branch::BranchKind;
-use crate::coverage::is_covered;
+use crate::branch_set::{is_in_set, set_of};
+use crate::coverage::covered;
 use crate::findings::{Finding, Given};
 use crate::names::Meaning;
 use std::alloc::{AllocError, Global};
-use std::collections::BTreeMap;
+use std::collections::{BTreeMap, HashSet};
 use va_tree::Item;
 
 /// Adds the contribution that a finding is, if it is one.
@@ -40,97 +43,129 @@ pub fn givens_of(alloc: Global, findings: &[Finding]) -> Result<Vec<Given>, Allo
     Ok(givens)
 }
 
-fn is_flow_to(given: &Given, branch: u32) -> bool
-    ensures { result ≡ flow_to branch given.now }
-{
-    given.branch == branch && given.is_flow
+/// What a finding can tell of a branch.
+#[derive(Clone, Copy, Debug, PartialEq, Eq)]
+pub enum Evidence {
+    /// A potential is contributed.
+    Potential,
+    /// A potential is contributed that may not collapse the branch.
+    Firm,
+    /// A flow is contributed.
+    Flow,
+    /// The flow of the branch is read.
+    Read,
 }
 
-fn is_potential_to(given: &Given, branch: u32) -> bool
-    ensures { result ≡ potential_to branch given.now }
+/// The branch of which a contribution tells something, if it does.
+fn given_told(evidence: Evidence, given: Given) -> Option<u32>
+    ensures { result ≡ spec.given_told evidence given }
 {
-    given.branch == branch && !given.is_flow
+    let tells = match evidence {
+        Evidence::Potential => !given.is_flow,
+        Evidence::Firm => !given.is_flow && !given.may_collapse,
+        Evidence::Flow => given.is_flow,
+        Evidence::Read => false,
+    };
+    if tells { Some(given.branch) } else { None }
 }
 
-fn collapses_if_to(given: &Given, branch: u32) -> bool
-    ensures { result ≡ may_collapse_branch branch given.now }
+/// The branch whose flow is read, where this is asked for.
+fn read_told(evidence: Evidence, branch: u32) -> Option<u32>
+    ensures { result ≡ spec.read_told evidence branch }
 {
-    !is_potential_to(given, branch) || given.may_collapse
-}
-
-fn has_flow(givens: &[Given], branch: u32) -> bool
-    ensures { result ≡ list_any (flow_to branch) givens.now }
-{
-    for given in givens {
-        if is_flow_to(given, branch) {
-            return true;
-        }
+    match evidence {
+        Evidence::Potential => None,
+        Evidence::Firm => None,
+        Evidence::Flow => None,
+        Evidence::Read => Some(branch),
     }
-    false
 }
 
-fn has_potential(givens: &[Given], branch: u32) -> bool
-    ensures { result ≡ list_any (potential_to branch) givens.now }
-{
-    for given in givens {
-        if is_potential_to(given, branch) {
-            return true;
-        }
-    }
-    false
-}
-
-/// Whether each potential of a branch may collapse it.
-fn each_collapses(givens: &[Given], branch: u32) -> bool
-    ensures { result ≡ list_all (may_collapse_branch branch) givens.now }
-{
-    for given in givens {
-        if !collapses_if_to(given, branch) {
-            return false;
-        }
-    }
-    true
-}
-
-fn reads_flow(finding: Finding, branch: u32) -> bool
-    ensures { result ≡ reads_flow_of branch finding }
+/// The branch of which a finding tells something, if it does.
+fn told(evidence: Evidence, finding: Finding) -> Option<u32>
+    ensures { result ≡ spec.told evidence finding }
 {
     match finding {
-        Finding::FlowRead(other) => other == branch,
-        Finding::Biased(_) => false,
-        Finding::Given(_) => false,
+        Finding::Biased(_) => None,
+        Finding::FlowRead(branch) => read_told(evidence, branch),
+        Finding::Given(given) => given_told(evidence, given),
     }
 }
 
-/// Whether the flow of a branch is read.
-fn is_read(findings: &[Finding], branch: u32) -> bool
-    ensures { result ≡ list_any (reads_flow_of branch) findings.now }
+/// Adds the branch of which something is told, if there is one.
+fn add_told(branch: Option<u32>, set: &mut HashSet<u32>) -> Result<(), AllocError>
+    ensures { IfOk result (λ done. (b : ℕ) → bag.contains nat_eq set.new b ≡ (bag.contains nat_eq set.old b || is_this b branch)) }
 {
-    for finding in findings {
-        if reads_flow(*finding, branch) {
-            return true;
+    match branch {
+        None => Ok(()),
+        Some(number) => {
+            set.insert(number)?;
+            Ok(())
         }
     }
-    false
 }
 
-/// The kind of a branch, if it has one.
-pub fn kind_of(
+/// The branches of which some finding tells something.
+fn branches_told(
+    alloc: Global,
+    evidence: Evidence,
+    findings: &[Finding],
+) -> Result<HashSet<u32>, AllocError>
+    ensures { IfOk result (λ set. (branch : ℕ) → bag.contains nat_eq set branch ≡ list_any (tells evidence branch) findings.now) }
+{
+    let mut set = HashSet::new(alloc);
+    for finding in findings {
+        add_told(told(evidence, *finding), &mut set)?;
+    }
+    Ok(set)
+}
+
+/// What is known of the branches of a module, one set for each fact that makes their kinds.
+#[derive(Drop)]
+pub struct BranchFacts {
+    pub potentials: HashSet<u32>,
+    pub firm: HashSet<u32>,
+    pub flows: HashSet<u32>,
+    pub reads: HashSet<u32>,
+    /// Every path contributes to them.
+    pub covered: HashSet<u32>,
+}
+
+/// What findings and statements tell of the branches.
+pub fn branch_facts(
+    alloc: Global,
     items: &[Item],
     meanings: &BTreeMap<u32, Meaning>,
     findings: &[Finding],
-    givens: &[Given],
-    branch: u32,
-) -> Option<BranchKind>
-    ensures { result ≡ kind_by (list_any (potential_to branch) givens.now) (list_all (may_collapse_branch branch) givens.now) (list_any (reads_flow_of branch) findings.now) (list_any (flow_to branch) givens.now) (list_any (always_contributes (tree.get nat_cmp meanings.now) branch) (blocks_of items.now)) }
+) -> Result<BranchFacts, AllocError>
+    ensures { IfOk result (AreFacts (tree.get nat_cmp meanings.now) (blocks_of items.now) findings.now) }
 {
-    if !has_potential(givens, branch) {
+    let potentials = branches_told(alloc, Evidence::Potential, findings)?;
+    let firm = branches_told(alloc, Evidence::Firm, findings)?;
+    let flows = branches_told(alloc, Evidence::Flow, findings)?;
+    let reads = branches_told(alloc, Evidence::Read, findings)?;
+    let list = covered(alloc, items, meanings)?;
+    let covered = set_of(alloc, list.as_slice())?;
+    Ok(BranchFacts {
+        potentials,
+        firm,
+        flows,
+        reads,
+        covered,
+    })
+}
+
+/// The kind of a branch, if it has one.
+pub fn kind_of(facts: &BranchFacts, branch: u32) -> Option<BranchKind>
+    ensures { result ≡ kind_told facts.now branch }
+{
+    if !is_in_set(&facts.potentials, branch) {
         return Some(BranchKind::Flow);
     }
-    if each_collapses(givens, branch) && !is_read(findings, branch) {
+    if !is_in_set(&facts.firm, branch) && !is_in_set(&facts.reads, branch) {
         return Some(BranchKind::Collapsing);
     }
-    if !has_flow(givens, branch) && is_covered(items, branch, meanings) {
+    if !is_in_set(&facts.flows, branch) && is_in_set(&facts.covered, branch) {
         return Some(BranchKind::Potential);
     }
     None

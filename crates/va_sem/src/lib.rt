@@ -4,6 +4,7 @@
 
 mod bias;
 pub mod branch;
+mod branch_set;
 pub mod builtin;
 pub mod checked;
 mod contributions;
@@ -14,6 +15,7 @@ pub mod kinds;
 pub mod laws;
 pub mod names;
 pub mod pattern;
+pub mod reach_laws;
 pub mod rule_laws;
 pub mod rules_worked;
 mod surveys;

@@ -1,20 +1,21 @@
 //! What walks over the statements of a module found, and the kinds and unknowns that follow.
-ghost use Rattle.std.specs.Prelude.{◌≡◌, ◌++◌, map, filter, Some, IfOk};
+ghost use Rattle.std.specs.Prelude.{◌≡◌, ◌++◌, map, filter, Some, IsSome, IfOk};
 ghost use Rattle.std.specs.List.{range_with_len};
 ghost use Rattle.va_sem.specs.declared.branch.Unknown.TheVariants.{Node, Branch};
-ghost use Rattle.va_sem.specs.rules.Findings.{IsSurvey, is_among, grown_by, has_potential_kind};
+ghost use Rattle.va_sem.specs.rules.Findings.{IsSurvey, has_potential_kind};
 ghost use Rattle.va_sem.specs.rules.Unknowns.{kinds_in, potential_branches, first_of_each, HasKinds};
 ghost use Rattle.va_sem.specs.rules.Biased.{analysis_of};
-ghost use Rattle.va_sem.specs.rules.BranchKinds as spec;
+ghost use Rattle.va_sem.specs.rules.BranchFacts.{kind_told, TellKinds, HasAll, grown_by};
 ghost use Rattle.va_sem.specs.Declarations.{analog_bodies};
 
 use crate::bias::{biased_variables, find, meanings_of};
 use crate::branch::{BranchKind, Unknown};
-use crate::contributions::{givens_of, in_order, kind_of};
+use crate::branch_set::{is_in_set, no_branches};
+use crate::contributions::{BranchFacts, branch_facts, givens_of, in_order, kind_of};
 use crate::findings::{Finding, Given};
 use crate::names::{Meaning, ModuleNames};
 use std::alloc::{AllocError, Global};
-use std::collections::BTreeMap;
+use std::collections::{BTreeMap, HashSet};
 use va_base::NoMemory;
 use va_tree::Module;
 
@@ -44,23 +45,23 @@ pub fn survey_module(alloc: Global, m: &Module, names: &ModuleNames) -> Result<S
     })
 }
 
-/// The kind of a branch, if it has one.
-fn surveyed_kind(
+/// What is known of the branches of a module.
+fn facts_of(
+    alloc: Global,
     m: &Module,
     names: &ModuleNames,
     survey: &Survey,
-    branch: u32,
-) -> Option<BranchKind>
+) -> Result<BranchFacts, AllocError>
     requires { IsSurvey names.now m.now survey.now }
-    ensures { result ≡ spec.kind_of (analysis_of names.now (analog_bodies m.now)) branch }
+    ensures { IfOk result (TellKinds names.now m.now) }
 {
-    kind_of(
+    let facts = branch_facts(
+        alloc,
         m.items.as_list(),
         &survey.meanings,
         survey.findings.as_slice(),
-        survey.givens.as_slice(),
-        branch,
-    )
+    )?;
+    Ok(facts)
 }
 
 /// A length as a 32-bit number.
@@ -73,15 +74,15 @@ pub fn number_of(len: usize) -> Result<u32, NoMemory>
     }
 }
 
-/// The kind of a branch, where each has one.
-fn known_kind(m: &Module, names: &ModuleNames, survey: &Survey, branch: u32) -> BranchKind
-    requires survey { IsSurvey names.now m.now survey.now }
-    requires kinds { HasKinds names.now m.now }
-    ensures { Some result ≡ spec.kind_of (analysis_of names.now (analog_bodies m.now)) branch }
+/// The kind of a branch that has one.
+fn known_kind(facts: &BranchFacts, branch: u32) -> BranchKind
+    requires { IsSome (kind_told facts.now branch) }
+    ensures { Some result ≡ kind_told facts.now branch }
 {
-    surveyed_kind(m, names, survey, branch).unwrap()
+    kind_of(facts, branch).unwrap()
 }
 
+/// The kinds of the branches of a module in the order of `branches`, where each has one.
 pub fn surveyed_kinds(
     alloc: Global,
     m: &Module,
@@ -92,10 +93,11 @@ pub fn surveyed_kinds(
     requires kinds { HasKinds names.now m.now }
     ensures { IfOk result (λ kinds. map Some kinds.items ≡ kinds_in names.now m.now) }
 {
+    let facts = facts_of(alloc, m, names, survey)?;
     let count = number_of(names.branches.as_list().len())?;
     let mut kinds = Vec::new(alloc);
     for branch in 0..count {
-        let kind = known_kind(m, names, survey, branch);
+        let kind = known_kind(&facts, branch);
         kinds.push(kind)?;
     }
     Ok(kinds)
@@ -110,32 +112,20 @@ fn is_potential(kind: Option<BranchKind>) -> bool
     }
 }
 
-fn is_one_of(branches: &[u32], branch: u32) -> bool
-    ensures { result ≡ is_among branches.now branch }
-{
-    for other in branches {
-        if *other == branch {
-            return true;
-        }
-    }
-    false
-}
-
-/// Adds a branch if it is a potential branch and not there yet.
+/// Adds a branch to a list if it is a potential branch and not there yet. The set has what the list has.
 fn add_potential(
-    m: &Module,
-    names: &ModuleNames,
-    survey: &Survey,
+    facts: &BranchFacts,
     branch: u32,
     branches: &mut Vec<u32>,
+    listed: &mut HashSet<u32>,
 ) -> Result<(), AllocError>
-    requires { IsSurvey names.now m.now survey.now }
-    ensures { IfOk result (λ done. branches.new.items ≡ grown_by names.now m.now branches.old.items branch) }
+    requires { HasAll branches.old.items listed.old }
+    ensures grown { IfOk result (λ done. branches.new.items ≡ grown_by (has_potential_kind (kind_told facts.now branch)) branches.old.items branch) }
+    ensures listed { IfOk result (λ done. HasAll branches.new.items listed.new) }
 {
-    if is_potential(surveyed_kind(m, names, survey, branch))
-        && !is_one_of(branches.as_slice(), branch)
-    {
+    if is_potential(kind_of(facts, branch)) && !is_in_set(listed, branch) {
         branches.push(branch)?;
+        listed.insert(branch)?;
     }
     Ok(())
 }
@@ -143,17 +133,15 @@ fn add_potential(
 /// The potential branches among those of some contributions, each once.
 fn potentials_among(
     alloc: Global,
-    m: &Module,
-    names: &ModuleNames,
-    survey: &Survey,
+    facts: &BranchFacts,
     ordered: &[Given],
 ) -> Result<Vec<u32>, AllocError>
-    requires { IsSurvey names.now m.now survey.now }
-    ensures { IfOk result (λ branches. branches.items ≡ filter (λ b. has_potential_kind (spec.kind_of (analysis_of names.now (analog_bodies m.now)) b)) (first_of_each (map (λ g. g.branch) ordered.now))) }
+    ensures { IfOk result (λ branches. branches.items ≡ filter (λ b. has_potential_kind (kind_told facts.now b)) (first_of_each (map (λ g. g.branch) ordered.now))) }
 {
     let mut branches = Vec::new(alloc);
+    let mut listed = no_branches(alloc);
     for given in ordered {
-        add_potential(m, names, survey, given.branch, &mut branches)?;
+        add_potential(facts, given.branch, &mut branches, &mut listed)?;
     }
     Ok(branches)
 }
@@ -168,8 +156,9 @@ pub fn surveyed_potentials(
     requires { IsSurvey names.now m.now survey.now }
     ensures { IfOk result (λ branches. branches.items ≡ potential_branches (analysis_of names.now (analog_bodies m.now))) }
 {
+    let facts = facts_of(alloc, m, names, survey)?;
     let ordered = in_order(alloc, survey.givens.as_slice())?;
-    let branches = potentials_among(alloc, m, names, survey, ordered.as_slice())?;
+    let branches = potentials_among(alloc, &facts, ordered.as_slice())?;
     Ok(branches)
 }
 

@@ -14,6 +14,7 @@ pub returns : goal.returns
 returns c =
     let a = analysis_of c.args.names.now (analog_bodies c.args.m.now) in
     c.in_ok-branches.ensures
+    ∙ (λ j. filter (λ b. has_potential_kind (c.in_ok-facts.ensures b j)) (first_of_each (map (λ (g : Given). g.branch) c.as_slice-2.result.now)))
     ∙ ap (λ (list : List ℕ). filter (λ b. has_potential_kind (kind_of a b)) (first_of_each list))
     (ap (map (λ (g : Given). g.branch)) c.as_slice-2.ensures.value
     ∙ branches_found a c.args.survey.now.findings.items c.args.survey.now.givens.items c.in_ok-ordered.ordered.items c.requires.findings c.requires.givens (c.in_ok-ordered.ensures ∙ ap (in_text_order (λ (g : Given). g.at)) c.as_slice.ensures.value))
