@@ -5,6 +5,7 @@ use Rattle.va_base.specs.declared.fault.FaultCode.TheVariants.{UnknownName, Twic
 use Rattle.va_tree.specs.declared.expr.BinaryOp.TheVariants.{Greater, Add, Multiply, Remainder}
 use Rattle.va_tree.specs.declared.expr.Expr.{Expr}
 use Rattle.va_tree.specs.declared.module.Direction.TheVariants.{Inout}
+use Rattle.va_tree.specs.declared.module.FunctionItem.TheVariants as function_item
 use Rattle.va_tree.specs.declared.module.Item.{Item}
 use Rattle.va_tree.specs.declared.module.ItemBody.TheVariants as item
 use Rattle.va_tree.specs.declared.module.Module.{Module}
@@ -16,7 +17,7 @@ use Rattle.va_sem.specs.NamesFaults.{FaultAt}
 use Rattle.va_sem.specs.SmallTrees.{module_at}
 use Rattle.va_sem.specs.rules.Limits.{Limits, limits}
 use Rattle.va_examples.specs.Examples.{source_of, module_of, v_a, v_c, to_a, to_a_c}
-use Rattle.va_examples.specs.Notation.{Text, n, piece, plain, whole, name, between, expression, system, system_alone, of, of_two, to_ground, across, assign, contribute, contribute_alone, begins, if_only, repeats, variable, variables, defaulted, parameters, analog, function}
+use Rattle.va_examples.specs.Notation.{Text, n, piece, plain, whole, name, between, expression, system, system_alone, called, of, of_two, to_ground, across, assign, contribute, contribute_alone, begins, if_only, repeats, variable, variables, defaulted, parameters, analog, function}
 
 -- the fault that is answered
 abbrev pub fault_in : List (Text Item) → Option FaultAt
@@ -38,6 +39,12 @@ thermal_t at = piece (plain (item.Nodes at (codes "thermal") (n (at + 1) (codes 
 abbrev function_of : Bytes → Text Expr → Text Item
 function_of f e = function (Some ty.Real) f (codes "x" ∷ []) (assign f e)
 
+-- analog function real f; real f; input f; f = 1; endfunction
+abbrev typed_by_own_name : Text Item
+typed_by_own_name at =
+    let body = assign (codes "f") (whole 1) (at + 11) in
+    piece (plain (item.Function at (Some ty.Real) (n (at + 3) (codes "f")) (function_item.Variables (at + 5) ty.Real (n (at + 6) (codes "f") ∷ []) ∷ function_item.Input (at + 8) (n (at + 9) (codes "f") ∷ []) ∷ []) body.is)) (body.after + 1)
+
 -- module m(a, c); inout a, c; electrical a; endmodule
 abbrev port_without_discipline : Module
 port_without_discipline =
@@ -50,6 +57,8 @@ pub record WorkedFaults : Type 0 where
   pub unknown_name : fault_in (analog (to_a (name (codes "z"))) ∷ []) ≡ Some (99, UnknownName)
   -- real x; real x;
   pub twice_declared : fault_in (real_x ∷ real_x ∷ []) ≡ Some (97, TwiceDeclared)
+  -- analog function real f; real f; input f; f = 1; endfunction
+  pub own_name_with_a_type : fault_in (typed_by_own_name ∷ []) ≡ Some (99, TwiceDeclared)
   -- parameter real p = 0; analog p = 2;
   pub wrong_kind : fault_in (real_p ∷ analog (assign (codes "p") (whole 2)) ∷ []) ≡ Some (100, WrongKind)
   -- analog Temp(a) <+ 1;
@@ -71,6 +80,8 @@ pub record WorkedFaults : Type 0 where
       ≡ Some (97, NotConstant)
   -- real x; analog x = 7 % x;
   pub real_operand : fault_in (real_x ∷ analog (assign (codes "x") (between (whole 7) Remainder (name (codes "x")))) ∷ []) ≡ Some (99, RealOperand)
+  -- real x; analog x = 2 % abs();
+  pub operand_without_type : fault_in (real_x ∷ analog (assign (codes "x") (between (whole 2) Remainder (called (codes "abs") []))) ∷ []) ≡ Some (99, RealOperand)
   -- analog I(a) <+ V(a) * ddt(V(c));
   pub ddt_nonlinear : fault_in (analog (to_a (between v_a Multiply (of (codes "ddt") v_c))) ∷ []) ≡ Some (104, DdtNonLinear)
   -- analog if (V(c) > 0) I(a) <+ ddt(V(a));

@@ -24,12 +24,13 @@ use Rattle.va_sem.specs.declared.builtin.SystemName.{SystemName}
 use Rattle.va_sem.specs.declared.builtin.SystemName.TheVariants as system_name
 use Rattle.va_sem.specs.declared.names.Meaning.{Meaning}
 use Rattle.va_sem.specs.declared.names.Meaning.TheVariants as means
-use Rattle.va_sem.specs.Builtins.{builtin_at, answer_type, system_answer_type, common, system_name_of, takes, system_takes, argument_looked_at}
+use Rattle.va_sem.specs.Builtins.{builtin_at, answer_type, system_answer_type, common, system_name_of, takes, system_takes, argument_looked_at, taken_by, taken_by_name, taken_at}
+use Rattle.va_sem.proofs.ArgumentsFit.{arguments_of_sound_call}
 use Rattle.va_sem.specs.Lookup.{Bytes}
 use Rattle.va_sem.specs.LookedAt.{looked_at, looked_at_in_arguments, call_looks, looks}
 use Rattle.va_sem.specs.NamesFaults.{fault_if}
-use Rattle.va_sem.specs.Typing.{Typing, meaning_at, type_of_meaning, either_type, type_of_unary, type_of_binary, type_of_builtin, type_of_called, type_of_system, type_of_literal, type_of, types_of_arguments}
-use Rattle.va_sem.specs.TypesFaults.{argument_count, builtin_takes, meaning_takes, call_takes, taken_by, taken_by_name, taken_at, means_access, system_name_takes, is_access_call, kind_faults, is_real, is_remainder, expression_faults}
+use Rattle.va_sem.specs.Typing.{Typing, meaning_at, type_of_meaning, either_type, type_of_unary, type_of_binary, type_of_builtin, type_of_called, type_of_system, type_of_literal, type_of, types_of_arguments, argument_count, builtin_takes, meaning_takes, call_takes, means_access, system_name_takes, is_access_call, arguments_fit, type_of_call}
+use Rattle.va_sem.specs.TypesFaults.{kind_faults, is_real, is_remainder, expression_faults}
 use Rattle.va_tree.specs.declared.expr.BinaryOp.{BinaryOp}
 use Rattle.va_tree.specs.declared.expr.BinaryOp.TheVariants.{Or, And, Equal, NotEqual, Less, AtMost, Greater, AtLeast, Add, Subtract, Multiply, Divide, Remainder, Power}
 use Rattle.va_tree.specs.declared.expr.Callee.TheVariants as callee
@@ -240,21 +241,21 @@ module _ {V : Type 0} (M : Elaborated) (t : Typing) (fits : HasTyping M t) (c : 
   builtin_call_typed LeftOut bytes at place args vars h k l = refl
 
   -- an access is real
-  access_real : (m : Option Meaning) (args : List (Option Ty)) → means_access m ≡ true → type_of_called t args m ≡ RealTy
-  access_real (Some (means.Access b turned flow)) args h = refl
-  access_real None args h = cc (h)
-  access_real (Some (means.Node b)) args h = cc (h)
-  access_real (Some (means.Branch b)) args h = cc (h)
-  access_real (Some (means.Param b)) args h = cc (h)
-  access_real (Some (means.Var b)) args h = cc (h)
-  access_real (Some (means.Function b)) args h = cc (h)
-  access_real (Some (means.Discipline b)) args h = cc (h)
-  access_real (Some (means.Nature b)) args h = cc (h)
-  access_real (Some (means.Module b)) args h = cc (h)
-  access_real (Some (means.Builtin b)) args h = cc (h)
+  access_real : (m : Option Meaning) (fit : Bool) (args : List (Option Ty)) → means_access m ≡ true → type_of_called t fit args m ≡ RealTy
+  access_real (Some (means.Access b turned flow)) fit args h = refl
+  access_real None fit args h = cc (h)
+  access_real (Some (means.Node b)) fit args h = cc (h)
+  access_real (Some (means.Branch b)) fit args h = cc (h)
+  access_real (Some (means.Param b)) fit args h = cc (h)
+  access_real (Some (means.Var b)) fit args h = cc (h)
+  access_real (Some (means.Function b)) fit args h = cc (h)
+  access_real (Some (means.Discipline b)) fit args h = cc (h)
+  access_real (Some (means.Nature b)) fit args h = cc (h)
+  access_real (Some (means.Module b)) fit args h = cc (h)
+  access_real (Some (means.Builtin b)) fit args h = cc (h)
 
   access_call_real : (e : Expression) → is_access_call t.uses e ≡ true → type_of t e ≡ RealTy
-  access_call_real (call at callee.Function bytes args) h = access_real (meaning_at t.uses at) (types_of_arguments t args) h
+  access_call_real (call at callee.Function bytes args) h = access_real (meaning_at t.uses at) (arguments_fit t at callee.Function bytes args) (types_of_arguments t args) h
   access_call_real (call at callee.System bytes args) h = cc (h)
   access_call_real (literal at value integer) h = cc (h)
   access_call_real (infinity at) h = cc (h)
@@ -318,7 +319,7 @@ module _ {V : Type 0} (M : Elaborated) (t : Typing) (fits : HasTyping M t) (c : 
   word_call_typed : (m : Option Meaning) (bytes : Bytes) (at place : ℕ) (args : Arguments) (vars : Store V) → meaning_takes t m (argument_count args) ≡ true
       → kind_faults t.uses (taken_at callee.Function bytes) 0 args ≡ []
       → Fit (call_looks callee.Function bytes) 0 (outcomes_of M c F place args vars) (types_of_arguments t args)
-      → Typed (type_of_called t (types_of_arguments t args) m) (call_value M c F (called m callee.Function bytes) at args (outcomes_of M c F place args vars))
+      → Typed (type_of_called t true (types_of_arguments t args) m) (call_value M c F (called m callee.Function bytes) at args (outcomes_of M c F place args vars))
   word_call_typed (Some (means.Builtin row)) bytes at place args vars h k l = by_row (builtin_at row) h
     where
       by_row : (b : Option Builtin) → builtin_takes b (argument_count args) ≡ true
@@ -340,7 +341,7 @@ module _ {V : Type 0} (M : Elaborated) (t : Typing) (fits : HasTyping M t) (c : 
   name_call_typed : (s : Option SystemName) (at place : ℕ) (args : Arguments) (vars : Store V) → system_name_takes s (argument_count args) ≡ true
       → kind_faults t.uses (taken_by_name s) 0 args ≡ []
       → Fit (looks s) 0 (outcomes_of M c F place args vars) (types_of_arguments t args)
-      → Typed (type_of_system (types_of_arguments t args) s) (call_value M c F (system_called s) at args (outcomes_of M c F place args vars))
+      → Typed (type_of_system true (types_of_arguments t args) s) (call_value M c F (system_called s) at args (outcomes_of M c F place args vars))
   name_call_typed (Some (system_name.Function s)) at place args vars h k l = system_call_typed s place args vars h k l
   name_call_typed (Some system_name.Task) at place args vars h k l = refl
   name_call_typed None at place args vars h k l = refl
@@ -374,18 +375,20 @@ module _ {V : Type 0} (M : Elaborated) (t : Typing) (fits : HasTyping M t) (c : 
     value_typed place (call at callee.Function bytes args) vars h k =
         let own = no_front (expression_faults t (call at callee.Function bytes args)) _ k in
         let count = no_front (fault_if (not (call_takes t at callee.Function bytes (argument_count args))) at ArgumentCount) _ own in
-        subst (λ m. IfGives (λ v. type_of_number v ≡ type_of_called t (types_of_arguments t args) (meaning_at t.uses at)) (call_value M c F (called m callee.Function bytes) place args (outcomes_of M c F (place + 1) args vars))) (sym (fits.meaning at))
+        subst (λ fit. Typed (type_of_call t at callee.Function bytes fit (types_of_arguments t args)) (value_of M c F place (call at callee.Function bytes args) vars)) (sym (arguments_of_sound_call t at callee.Function bytes args own))
+        (subst (λ m. IfGives (λ v. type_of_number v ≡ type_of_called t true (types_of_arguments t args) (meaning_at t.uses at)) (call_value M c F (called m callee.Function bytes) place args (outcomes_of M c F (place + 1) args vars))) (sym (fits.meaning at))
         (word_call_typed (meaning_at t.uses at) bytes place (place + 1) args vars
         (from_not _ (no_fault _ at ArgumentCount count))
         (no_back (fault_if (not (call_takes t at callee.Function bytes (argument_count args))) at ArgumentCount) _ own)
-        (arguments_typed (call_looks callee.Function bytes) 0 (place + 1) args vars h (no_back (expression_faults t (call at callee.Function bytes args)) _ k)))
+        (arguments_typed (call_looks callee.Function bytes) 0 (place + 1) args vars h (no_back (expression_faults t (call at callee.Function bytes args)) _ k))))
     value_typed place (call at callee.System bytes args) vars h k =
         let own = no_front (expression_faults t (call at callee.System bytes args)) _ k in
         let count = no_front (fault_if (not (call_takes t at callee.System bytes (argument_count args))) at ArgumentCount) _ own in
-        name_call_typed (system_name_of bytes) place (place + 1) args vars
+        subst (λ fit. Typed (type_of_call t at callee.System bytes fit (types_of_arguments t args)) (value_of M c F place (call at callee.System bytes args) vars)) (sym (arguments_of_sound_call t at callee.System bytes args own))
+        (name_call_typed (system_name_of bytes) place (place + 1) args vars
         (from_not _ (no_fault _ at ArgumentCount count))
         (no_back (fault_if (not (call_takes t at callee.System bytes (argument_count args))) at ArgumentCount) _ own)
-        (arguments_typed (call_looks callee.System bytes) 0 (place + 1) args vars h (no_back (expression_faults t (call at callee.System bytes args)) _ k))
+        (arguments_typed (call_looks callee.System bytes) 0 (place + 1) args vars h (no_back (expression_faults t (call at callee.System bytes args)) _ k)))
 
     arguments_typed : (test : ℕ → Bool) (i place : ℕ) (args : Arguments) (vars : Store V) → IsTypedStore M vars
         → flat_map (expression_faults t) (looked_at_in_arguments test i args) ≡ []

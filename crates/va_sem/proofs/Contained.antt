@@ -1,5 +1,5 @@
 -- What is in a list, and what holds of each of its elements.
-use Rattle.std.specs.Prelude.{◌≡◌, ◌≢◌, ◌⊎◌, ℕ, zero, suc, ◌+◌, ◌<◌, ◌==◌, nat_le, Bool, true, false, List, [], ◌∷◌, ◌++◌, filter, filter_map, flat_map, length, map, Option, Some, None, if◌then◌else◌}
+use Rattle.std.specs.Prelude.{◌≡◌, ◌≢◌, ◌⊎◌, ℕ, zero, suc, ◌+◌, ◌<◌, ◌==◌, nat_le, Bool, true, false, List, [], ◌∷◌, ◌++◌, filter, filter_map, flat_map, length, map, Contains, Option, Some, None, if◌then◌else◌}
 use Rattle.std.specs.List.{AllByRecursion, cons_option, slice_get}
 use Rattle.std.proofs.Common.{refl, sym, ◌∙◌, ap, subst, arith, inl, inr}
 use Rattle.std.proofs.lemmas.Bool.Decides.{eqb_tells}
@@ -96,6 +96,26 @@ has_filter t [] x h e = absurd h
 has_filter t (z ∷ xs) x (inl is) e = subst (λ w. Has (if t z then z ∷ filter t xs else filter t xs) w) is (has_if (t z) z (filter t xs) (ap t is ∙ e))
 has_filter t (z ∷ xs) x (inr h) e = has_in_if (t z) z x (filter t xs) (has_filter t xs x h e)
 
+of_filter_if : {X : Type 0} (t : X → Bool) (b : Bool) (z x : X) (kept xs : List X) → t z ≡ b → (Has kept x → Has xs x × (t x ≡ true))
+    → Has (if b then z ∷ kept else kept) x → Has (z ∷ xs) x × (t x ≡ true)
+of_filter_if t true z x kept xs e more (inl is) = (inl is, ap t (sym is) ∙ e)
+of_filter_if t true z x kept xs e more (inr h) = (let r = more h in (inr r.0, r.1))
+of_filter_if t false z x kept xs e more h = (let r = more h in (inr r.0, r.1))
+
+pub has_of_filter : {X : Type 0} (t : X → Bool) (xs : List X) (x : X) → Has (filter t xs) x → Has xs x × (t x ≡ true)
+has_of_filter t [] x h = absurd h
+has_of_filter t (z ∷ xs) x h = of_filter_if t (t z) z x (filter t xs) xs refl (has_of_filter t xs x) h
+
+pub contained_has : {X : Type 0} (xs : List X) (x : X) → Contains xs x → Has xs x
+contained_has [] x (k, within, is) = absurd (omega (arith, within))
+contained_has (y ∷ xs) x (zero, within, is) = inl is
+contained_has (y ∷ xs) x (suc k, within, is) = inr (contained_has xs x (k, omega (arith, within), is))
+
+pub has_contained : {X : Type 0} (xs : List X) (x : X) → Has xs x → Contains xs x
+has_contained [] x h = absurd h
+has_contained (y ∷ xs) x (inl e) = (0, omega arith, e)
+has_contained (y ∷ xs) x (inr h) = (let r = has_contained xs x h in (suc r.0, omega (arith, r.1), r.2))
+
 -- an element from whose list another comes
 pub record From {X Y : Type 0} (P : X → Y → Type 0) (xs : List X) (y : Y) : Type 0 where
   pub source : X
@@ -116,6 +136,12 @@ second g (inr b) = inr (g b)
 pub from_flat : {X Y : Type 0} (f : X → List Y) (xs : List X) (y : Y) → Has (flat_map f xs) y → From (λ x y. Has (f x) y) xs y
 from_flat f [] y h = absurd h
 from_flat f (x ∷ xs) y h = from_either f x xs y (second (from_flat f xs y) (has_append (f x) (flat_map f xs) y h))
+
+-- the element that a map makes another of
+pub from_map : {X Y : Type 0} (f : X → Y) (xs : List X) (y : Y) → Has (map f xs) y → From (λ x y. f x ≡ y) xs y
+from_map f [] y h = absurd h
+from_map f (x ∷ xs) y (inl e) = record { source = x; has = inl refl; gives = e }
+from_map f (x ∷ xs) y (inr h) = from_more (λ x y. f x ≡ y) x xs y (from_map f xs y h)
 
 has_kept : {Y : Type 0} (o : Option Y) (ys : List Y) (y : Y) → o ≡ Some y → Has (cons_option o ys) y
 has_kept None ys y e = absurd (cc (e))

@@ -31,7 +31,7 @@ by_either : (a b : FaultAt) → (nat_lt a.0 b.0 ≡ true) ⊎ ((a.0 == b.0 && na
 by_either a b (inl h) = inl (ltb-true a.0 b.0 h)
 by_either a b (inr h) = by_numbers a b h
 
-before_true : (a b : FaultAt) → is_before a b ≡ true → Before a b
+pub before_true : (a b : FaultAt) → is_before a b ≡ true → Before a b
 before_true a b h = by_either a b (either_true (nat_lt a.0 b.0) (a.0 == b.0 && nat_lt (number_of_code a.1) (number_of_code b.1)) h)
 
 left_or : (p q : Bool) → p ≡ true → p || q ≡ true
@@ -46,13 +46,13 @@ and_true : (p q : Bool) → p ≡ true → q ≡ true → p && q ≡ true
 and_true true q h k = k
 and_true false q h k = h
 
-is_before_true : (a b : FaultAt) → Before a b → is_before a b ≡ true
+pub is_before_true : (a b : FaultAt) → Before a b → is_before a b ≡ true
 is_before_true a b (inl h) = left_or (nat_lt a.0 b.0) (a.0 == b.0 && nat_lt (number_of_code a.1) (number_of_code b.1)) (lt-ltb a.0 b.0 h)
 is_before_true a b (inr h) =
     right_or (nat_lt a.0 b.0) (a.0 == b.0 && nat_lt (number_of_code a.1) (number_of_code b.1))
     (and_true (a.0 == b.0) (nat_lt (number_of_code a.1) (number_of_code b.1)) (eq-eqb a.0 b.0 h.0) (lt-ltb (number_of_code a.1) (number_of_code b.1) h.1))
 
-not_before : (a b : FaultAt) → is_before a b ≡ false → Before a b → ⊥
+pub not_before : (a b : FaultAt) → is_before a b ≡ false → Before a b → ⊥
 not_before a b h k = false≢true (sym h ∙ is_before_true a b k)
 
 not_itself : (a : FaultAt) → Before a a → ⊥
@@ -77,7 +77,7 @@ later_token x b a not_b not_a above (inr h) (inr k) =
     same_token x b a not_b not_a (let e : x.0 ≡ b.0 = omega (arith, above, k, h.0) in e) (let f : b.0 ≡ a.0 = omega (arith, above, k, h.0) in f) h.1
     (cases_lt (number_of_code x.1) (number_of_code b.1))
 
-between : (x b a : FaultAt) → (Before x b → ⊥) → (Before b a → ⊥) → Before x a → (x.0 < b.0) ⊎ (b.0 ≤ x.0) → ⊥
+pub between : (x b a : FaultAt) → (Before x b → ⊥) → (Before b a → ⊥) → Before x a → (x.0 < b.0) ⊎ (b.0 ≤ x.0) → ⊥
 between x b a not_b not_a h (inl k) = not_b (inl k)
 between x b a not_b not_a h (inr k) = later_token x b a not_b not_a k h (cases_lt b.0 a.0)
 
@@ -85,7 +85,7 @@ between x b a not_b not_a h (inr k) = later_token x b a not_b not_a k h (cases_l
 abbrev NoneBefore : List FaultAt → FaultAt → Type 0
 NoneBefore list m = (k : ℕ) (d : FaultAt) → k < length list → Before (get_or list k d) m → ⊥
 
-least_none : (rest : List FaultAt) → least_of rest ≡ None → rest ≡ []
+pub least_none : (rest : List FaultAt) → least_of rest ≡ None → rest ≡ []
 least_none [] h = refl
 least_none (a ∷ rest) h = cc
 

@@ -22,7 +22,7 @@ use Rattle.va_sem.specs.declared.findings.Finding.{Finding}
 use Rattle.va_sem.specs.declared.names.Meaning.{Meaning}
 use Rattle.va_sem.specs.LookedAt.{looked_at}
 use Rattle.va_sem.specs.rules.Biased.{is_biased}
-use Rattle.va_sem.specs.rules.Findings.{IsRead, Visits, Enters, own_values, around_inner, inner_values, meanings_in, flows_read, reads_biased, any_biased, found_by, values_in_else, in_item, in_declaration}
+use Rattle.va_sem.specs.rules.Findings.{IsRead, IsTested, Visits, Enters, own_values, around_inner, inner_values, meanings_in, flows_read, reads_biased, any_biased, found_by, values_in_else, in_item, in_declaration}
 use Rattle.va_sem.specs.rules.Values.{assigned, contributed, tested, initial, Around, under as under_conditions, looped, Value, value_for, tests_of, is_evaluated, values_in, values_in_statements, values_in_items, values_in_defaults}
 use Rattle.va_sem.proofs.Visiting.{biased_answer, test_found, plain_found, any_of_all, visits_nothing, visits_then, declared_parts, tests_parts}
 use Rattle.va_sem.proofs.Walks.{found_then}
@@ -169,11 +169,21 @@ module _ (meaning : ℕ → Option Meaning) (biased : ℕ → Bool) where
   if_enters at t x None f g a inside under r q around u = (test_found meaning biased around t f g a r, q ∙ (λ j. biased_answer meaning biased t f g a r j || u j))
   if_enters at t x (Some b) f g a inside under r q around u = (test_found meaning biased around t f g a r, q ∙ (λ j. biased_answer meaning biased t f g a r j || u j))
 
-  pub enter_if : (s : Stmt) (at : ℕ) (test : Expr) (x : Stmt) (other : Option Stmt) (f g : List Finding) (a inside under : Bool) → s ≡ If at test x other
-      → IsRead biased (meanings_in meaning (looked_at (expression_of test))) f g a → inside ≡ a || under → In s under f g inside
-  enter_if s at test x other f g a inside under e r q =
+  -- a condition
+  abbrev Reads : Bool → Expression → List Finding → List Finding → Bool → Type 0
+  Reads under e f g inside = IsTested biased under (meanings_in meaning (looked_at e)) f g inside
+
+  abbrev answer : Expression → Bool
+  answer e = list_any (reads_biased biased) (meanings_in meaning (looked_at e))
+
+  read_of : (e : Expression) (f g : List Finding) (inside under : Bool) → Reads under e f g inside → IsRead biased (meanings_in meaning (looked_at e)) f g (answer e)
+  read_of e f g inside under x = record { answer_is = refl; found = x.found }
+
+  pub enter_if : (s : Stmt) (at : ℕ) (test : Expr) (x : Stmt) (other : Option Stmt) (f g : List Finding) (inside under : Bool) → s ≡ If at test x other
+      → Reads under (expression_of test) f g inside → In s under f g inside
+  enter_if s at test x other f g inside under e r =
       enters_as s (if_of at (expression_of test) (statement_of x) other) (at_if s at test x other x e refl) f g inside under
-      (if_enters at (expression_of test) (statement_of x) other f g a inside under r q)
+      (if_enters at (expression_of test) (statement_of x) other f g (answer (expression_of test)) inside under (read_of (expression_of test) f g inside under r) r.answer_is)
 
   pub enter_case : (s : Stmt) (at : ℕ) (selector : Expr) (items : List CaseItem) (defaults : List CaseDefault) (items' : List CaseItem) (f g h : List Finding) (a b d inside under : Bool)
       → s ≡ Case at selector items defaults → items ≡ items' → IsRead biased (meanings_in meaning (looked_at (expression_of selector))) f g a
@@ -211,19 +221,21 @@ module _ (meaning : ℕ → Option Meaning) (biased : ℕ → Bool) where
         flag,
       ))
 
-  pub enter_while : (s : Stmt) (at : ℕ) (test : Expr) (body : Stmt) (f g : List Finding) (a inside under : Bool) → s ≡ While at test body
-      → IsRead biased (meanings_in meaning (looked_at (expression_of test))) f g a → inside ≡ a || under → In s under f g inside
-  enter_while s at test body f g a inside under e r q =
+  pub enter_while : (s : Stmt) (at : ℕ) (test : Expr) (body : Stmt) (f g : List Finding) (inside under : Bool) → s ≡ While at test body
+      → Reads under (expression_of test) f g inside → In s under f g inside
+  enter_while s at test body f g inside under e x =
       let t : Expression = expression_of test in
+      let r = read_of t f g inside under x in
       enters_as s (while_loop at t (statement_of body)) (at_while s at test body body e refl) f g inside under
-      (λ around u. (test_found meaning biased around t f g a r, q ∙ (λ j. biased_answer meaning biased t f g a r j || u j)))
+      (λ around u. (test_found meaning biased around t f g (answer t) r, x.answer_is ∙ (λ j. biased_answer meaning biased t f g (answer t) r j || u j)))
 
-  pub enter_repeat : (s : Stmt) (at : ℕ) (count : Expr) (body : Stmt) (f g : List Finding) (a inside under : Bool) → s ≡ Repeat at count body
-      → IsRead biased (meanings_in meaning (looked_at (expression_of count))) f g a → inside ≡ a || under → In s under f g inside
-  enter_repeat s at count body f g a inside under e r q =
+  pub enter_repeat : (s : Stmt) (at : ℕ) (count : Expr) (body : Stmt) (f g : List Finding) (inside under : Bool) → s ≡ Repeat at count body
+      → Reads under (expression_of count) f g inside → In s under f g inside
+  enter_repeat s at count body f g inside under e x =
       let t : Expression = expression_of count in
+      let r = read_of t f g inside under x in
       enters_as s (repeat_loop at t (statement_of body)) (at_repeat s at count body body e refl) f g inside under
-      (λ around u. (test_found meaning biased around t f g a r, q ∙ (λ j. biased_answer meaning biased t f g a r j || u j)))
+      (λ around u. (test_found meaning biased around t f g (answer t) r, x.answer_is ∙ (λ j. biased_answer meaning biased t f g (answer t) r j || u j)))
 
   pub enter_assign : (s : Stmt) (at : ℕ) (target : List ℕ) (value : Expr) (f g : List Finding) (under : Bool) → s ≡ Assign at target value
       → Visits meaning biased under (λ around. value_for around (assigned at) (expression_of value) ∷ []) f g → In s under f g under

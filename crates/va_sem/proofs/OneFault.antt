@@ -141,14 +141,14 @@ tokens_same a b not_a not_b (inl less) k = absurd (not_a (inl less))
 tokens_same a b not_a not_b (inr above) (inl less) = absurd (not_b (inl less))
 tokens_same a b not_a not_b (inr above) (inr below) = omega (arith, above, below)
 
-one_fault : (a b : FaultAt) → (Before a b → ⊥) → (Before b a → ⊥) → a ≡ b
+pub one_fault : (a b : FaultAt) → (Before a b → ⊥) → (Before b a → ⊥) → a ≡ b
 one_fault a b not_a not_b =
     let at : a.0 ≡ b.0 = tokens_same a b not_a not_b (cases_lt a.0 b.0) (cases_lt b.0 a.0) in
     let code : a.1 ≡ b.1 =
     codes_same a b not_a not_b at (cases_lt (number_of_code a.1) (number_of_code b.1)) (cases_lt (number_of_code b.1) (number_of_code a.1)) in
     λ j. (at j, code j)
 
-none_there : (faults : List FaultAt) (a : FaultAt) → faults ≡ [] → Contains faults a → ⊥
+pub none_there : (faults : List FaultAt) (a : FaultAt) → faults ≡ [] → Contains faults a → ⊥
 none_there faults a e (k, within, is) = omega (arith, within, ap length e)
 
 -- the token and the code of a fault

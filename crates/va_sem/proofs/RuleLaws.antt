@@ -21,7 +21,7 @@ use Rattle.va_tree.specs.declared.module.Module.{Module}
 use Rattle.va_tree.specs.declared.source.Source.{Source}
 use Rattle.va_tree.specs.Statements.{Statement}
 use Rattle.va_sem.specs.MeaningsLaws.{AreNumbered}
-use Rattle.va_sem.specs.rules.RuleLaws.{IsLeast, RulesGiveLeastSets}
+use Rattle.va_sem.specs.rules.RuleLaws.{IsLeast, RulesGiveLeastSets, RulesAreMonotone}
 use Rattle.va_sem.proofs.NumberedNames.{names_are_numbered}
 
 -- from one answer follows the other
@@ -114,14 +114,14 @@ module _ (names : ModuleNames) (numbered : AreNumbered names) where
           (λ part. or_gives (is_variable_in a (meaning_of (meaning_at names.uses) part)) (list_any (λ inner. carries types names (analysis_of names blocks) u set (meaning_of (meaning_at names.uses) inner)) (carriers_under_ddt types (meaning_at names.uses) part)) (is_variable_in b (meaning_of (meaning_at names.uses) part)) (list_any (λ inner. carries types names (analysis_of names blocks) u set (meaning_of (meaning_at names.uses) inner)) (carriers_under_ddt types (meaning_at names.uses) part)) (variable_gives (meaning_of (meaning_at names.uses) part) (meaning_below part)) (λ h. h))
           (carriers types (meaning_at names.uses) e)
 
-  biased_monotone : (values : List Value) → IsMonotone (length names.vars) (biased_by (meaning_at names.uses) values)
+  pub biased_monotone : (values : List Value) → IsMonotone (length names.vars) (biased_by (meaning_at names.uses) values)
   biased_monotone values a b w x below =
       any_gives (λ (v : Value). is_assigned_to (meaning_at names.uses) x v.purpose && list_any (is_biased (meaning_at names.uses) a) (v.expression ∷ v.around.conditions))
       (λ (v : Value). is_assigned_to (meaning_at names.uses) x v.purpose && list_any (is_biased (meaning_at names.uses) b) (v.expression ∷ v.around.conditions))
       (λ (v : Value). and_gives (is_assigned_to (meaning_at names.uses) x v.purpose) (list_any (is_biased (meaning_at names.uses) a) (v.expression ∷ v.around.conditions)) (is_assigned_to (meaning_at names.uses) x v.purpose) (list_any (is_biased (meaning_at names.uses) b) (v.expression ∷ v.around.conditions)) (λ h. h) (any_gives (is_biased (meaning_at names.uses) a) (is_biased (meaning_at names.uses) b) (biased_gives a b w) (v.expression ∷ v.around.conditions)))
       values
 
-  timed_monotone : (values : List Value) → IsMonotone (length names.vars) (timed_by (meaning_at names.uses) values)
+  pub timed_monotone : (values : List Value) → IsMonotone (length names.vars) (timed_by (meaning_at names.uses) values)
   timed_monotone values a b w x below =
       any_gives (λ (v : Value). is_assigned_to (meaning_at names.uses) x v.purpose && is_timed (meaning_at names.uses) a v.expression)
       (λ (v : Value). is_assigned_to (meaning_at names.uses) x v.purpose && is_timed (meaning_at names.uses) b v.expression)
@@ -129,7 +129,7 @@ module _ (names : ModuleNames) (numbered : AreNumbered names) where
       values
 
   module _ (types : Typing) (blocks : List Statement) (u : Unknown) where
-    resistive_monotone : IsMonotone (length names.vars) (resistive_by types names (analysis_of names blocks) u)
+    pub resistive_monotone : IsMonotone (length names.vars) (resistive_by types names (analysis_of names blocks) u)
     resistive_monotone a b w x below =
         and_gives (not (is_integer (get_or types.variables x Real)))
         (list_any (λ (v : Value). is_assigned_to (meaning_at names.uses) x v.purpose && is_resistive types names (analysis_of names blocks) u a v.expression) (values_of blocks))
@@ -141,7 +141,7 @@ module _ (names : ModuleNames) (numbered : AreNumbered names) where
         (λ (v : Value). and_gives (is_assigned_to (meaning_at names.uses) x v.purpose) (is_resistive types names (analysis_of names blocks) u a v.expression) (is_assigned_to (meaning_at names.uses) x v.purpose) (is_resistive types names (analysis_of names blocks) u b v.expression) (λ h. h) (resistive_gives a b w types blocks u v.expression))
         (values_of blocks))
 
-    reactive_monotone : (set : ℕ → Bool) → IsMonotone (length names.vars) (reactive_by types names (analysis_of names blocks) u set)
+    pub reactive_monotone : (set : ℕ → Bool) → IsMonotone (length names.vars) (reactive_by types names (analysis_of names blocks) u set)
     reactive_monotone set a b w x below =
         and_gives (not (is_integer (get_or types.variables x Real)))
         (list_any (λ (v : Value). is_assigned_to (meaning_at names.uses) x v.purpose && is_reactive types names (analysis_of names blocks) u set a v.expression) (values_of blocks))
@@ -187,4 +187,12 @@ rules_give_least_sets = record {
   timed = λ s number m blocks. timed_least (names_of_module s number m) (numbers_of s number m) blocks;
   resistive = λ types s number m blocks u. resistive_least (names_of_module s number m) (numbers_of s number m) types blocks u;
   reactive = λ types s number m blocks u. reactive_least (names_of_module s number m) (numbers_of s number m) types blocks u;
+}
+
+pub rules_are_monotone : RulesAreMonotone
+rules_are_monotone = record {
+  biased = λ s number m blocks. biased_monotone (names_of_module s number m) (numbers_of s number m) (values_of blocks);
+  timed = λ s number m blocks. timed_monotone (names_of_module s number m) (numbers_of s number m) (values_of blocks);
+  resistive = λ types s number m blocks u. resistive_monotone (names_of_module s number m) (numbers_of s number m) types blocks u;
+  reactive = λ types s number m blocks u set. reactive_monotone (names_of_module s number m) (numbers_of s number m) types blocks u set;
 }

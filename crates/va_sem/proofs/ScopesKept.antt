@@ -47,7 +47,7 @@ module _ (P : Thing → ℕ → Type 0) where
   abbrev pub IsKeptVariable : VariableEntry → Type 0
   IsKeptVariable v = P variable v.name.at
 
-  counting_kept : (names : List Declared) → AreKept names → AreKept (counting names)
+  pub counting_kept : (names : List Declared) → AreKept names → AreKept (counting names)
   counting_kept names h = all_filter IsKept (is_first names) _ (all_filter IsKept _ names h)
 
   pub block_kept : (outer : List Declared) (s : Statement) → AllByRecursion IsKeptVariable (block_variables s) → AreKept outer → AreKept (block_scope outer s)

@@ -21,7 +21,7 @@ use Rattle.va_tree.specs.Statements.{Statement, Statements, Items, Defaults, nul
 use Rattle.va_sem.specs.Declarations.{VariableEntry, FunctionEntry, own_variables, block_variables, variables_in_blocks, variables_of_function, body_variables, item_functions, functions_of, variables_outside_functions}
 use Rattle.va_sem.specs.LookedAt.{call_looks}
 use Rattle.va_sem.specs.Lookup.{Bytes}
-use Rattle.va_sem.specs.Scopes.{Thing, Declared, variable, function, block_scope}
+use Rattle.va_sem.specs.Scopes.{Thing, Declared, variable, function, module_scope, block_scope}
 use Rattle.va_sem.specs.Sites.{Ends, one, two, neither, declares, assigns, calls, accesses, end, discipline, directs, Around, Site, site, site_of, is_access, looked_at_where, seeing, ends_of, ends_written, end_sites, expression_sites, argument_sites, bound_sites, variable_sites, declaration_sites, statement_sites, statements_sites, item_sites, default_sites, interval_sites, range_sites, parameter_sites, in_function, function_item_sites, function_sites, body_sites, in_module, module_sites}
 use Rattle.va_sem.specs.Walks.{statements_in, in_statements, in_items, in_defaults}
 use Rattle.va_sem.proofs.Contained.{Has, has_left, has_right, has_flat, all_of_has, all_left, all_right, all_join, all_flat_has, all_map, into_order}
@@ -210,17 +210,23 @@ module _ (P : Thing → ℕ → Type 0) where
   )
   body_kept a (Analog at body) h variables functions = statement_kept a (statement_of body) h (blocks_extend (statement_of body) variables)
 
-  -- The fact holds of all that is seen at the names of a module, if it holds of its functions and variables.
-  pub names_kept : HoldsOfOthers P → (given : List Bytes) (m : Module) → ((f : FunctionEntry) → Has (functions_of m) f → P function f.name.at)
+  -- The fact holds of all that is seen at the names of a module, if it holds of what is seen in the module and of all variables.
+  pub names_kept_in : (given : List Bytes) (m : Module) → AreKept P (module_scope m)
       → ((v : VariableEntry) → Has (variables_outside_functions m) v → P variable v.name.at)
       → ((f : FunctionEntry) → Has (functions_of m) f → (v : VariableEntry) → Has (variables_of_function f) v → P variable v.name.at)
       → AllByRecursion KeptAt (module_sites given m)
-  names_kept others given m functions outside inner =
+  names_kept_in given m h outside inner =
       let a = in_module given m in
-      let h : AreKept P a.scope = module_kept P others m functions outside in
       all_join KeptAt (map (site_of declares a) m.ports) (flat_map (λ (i : Item). body_sites a i.body) m.items)
       (all_map KeptAt (site_of declares a) m.ports (λ n. h))
       (all_flat_has KeptAt (λ (i : Item). body_sites a i.body) m.items (λ i k.
       body_kept a i.body h (λ v j. outside v (has_flat (λ (i : Item). body_variables i.body) m.items i v k j))
       (λ f j. inner f (into_order (λ (f : FunctionEntry). f.name.at) (flat_map (λ (i : Item). item_functions i.body) m.items) f
       (has_flat (λ (i : Item). item_functions i.body) m.items i f k j)))))
+
+  -- The fact holds of all that is seen at the names of a module, if it holds of its functions and variables.
+  pub names_kept : HoldsOfOthers P → (given : List Bytes) (m : Module) → ((f : FunctionEntry) → Has (functions_of m) f → P function f.name.at)
+      → ((v : VariableEntry) → Has (variables_outside_functions m) v → P variable v.name.at)
+      → ((f : FunctionEntry) → Has (functions_of m) f → (v : VariableEntry) → Has (variables_of_function f) v → P variable v.name.at)
+      → AllByRecursion KeptAt (module_sites given m)
+  names_kept others given m functions outside inner = names_kept_in given m (module_kept P others m functions outside) outside inner

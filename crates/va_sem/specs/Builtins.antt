@@ -1,9 +1,11 @@
 -- The built-in functions, system functions and tasks by their names; how many arguments they take, and the types of their answers.
-use Rattle.std.specs.Prelude.{ℕ, zero, suc, option_map, ◌+◌, ◌==◌, nat_le, Bool, true, List, [], ◌∷◌, Option, Some, None, codes}
+use Rattle.std.specs.Prelude.{ℕ, zero, suc, option_map, ◌+◌, ◌==◌, nat_le, Bool, true, false, List, [], ◌∷◌, Option, Some, None, if◌then◌else◌, codes}
 use Rattle.alg_laws.specs.declared.function.Fun1.TheVariants.{Exp, Ln, Log, Sqrt, Sin, Cos, Tan, Asin, Acos, Atan, Sinh, Cosh, Tanh, Asinh, Acosh, Atanh, Floor, Ceil}
 use Rattle.alg_laws.specs.declared.function.Fun2.TheVariants.{Pow, Atan2, Hypot}
 use Rattle.alg_laws.specs.declared.number.Ty.{Ty}
 use Rattle.alg_laws.specs.declared.number.Ty.TheVariants.{Integer, Real}
+use Rattle.va_tree.specs.declared.expr.Callee.{Callee}
+use Rattle.va_tree.specs.declared.expr.Callee.TheVariants as callee
 use Rattle.va_sem.specs.declared.builtin.Builtin.{Builtin}
 use Rattle.va_sem.specs.declared.builtin.Builtin.TheVariants.{One, Two, Abs, Min, Max, LimExp, Ddt, LeftOut}
 use Rattle.va_sem.specs.declared.builtin.SystemFunction.{SystemFunction}
@@ -121,6 +123,37 @@ system_takes ThermalVoltage n = nat_le n 1
 system_takes Limit n = nat_le 1 n
 system_takes SimParam n = n == 2
 system_takes ParamGiven n = n == 1
+
+-- what a function takes as its argument at a place
+pub data Taken : Type 0 where
+  a_number : Taken
+  a_string : Taken
+  an_access : Taken
+  a_parameter : Taken
+  anything : Taken
+
+-- of a system function, at a place from 0 on (Environment parameter functions)
+abbrev pub taken_by : SystemFunction → ℕ → Taken
+taken_by Temperature place = a_number
+taken_by ThermalVoltage place = a_number
+taken_by Limit place = if place == 0 then an_access else anything
+taken_by SimParam place = if place == 0 then a_string else a_number
+taken_by ParamGiven place = a_parameter
+
+abbrev pub taken_by_name : Option SystemName → ℕ → Taken
+taken_by_name (Some (Function f)) place = taken_by f place
+taken_by_name other place = anything
+
+abbrev pub taken_at : Callee → Bytes → ℕ → Taken
+taken_at callee.Function bytes place = a_number
+taken_at callee.System bytes place = taken_by_name (system_name_of bytes) place
+
+abbrev pub string_fits : Taken → Bool
+string_fits a_number = false
+string_fits a_string = true
+string_fits an_access = false
+string_fits a_parameter = false
+string_fits anything = true
 
 -- The types of arguments are listed in order; a string has none.
 

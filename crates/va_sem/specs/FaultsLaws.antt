@@ -1,12 +1,12 @@
 -- What the least of some faults is, and that one fault of a text is answered exactly where a rule is broken.
-use Rattle.std.specs.Prelude.{◌≡◌, ◌<◌, ◌⊎◌, List, [], Some, None, length, slice_get}
+use Rattle.std.specs.Prelude.{◌≡◌, ◌<◌, ◌⊎◌, ◌++◌, false, List, [], Option, Some, None, Contains, length, slice_get}
 use Rattle.va_base.specs.declared.expanded.Expanded.{Expanded}
 use Rattle.va_base.specs.declared.fault.Fault.{Fault}
 use Rattle.va_base.specs.declared.fault.Phase.{Phase}
 use Rattle.va_base.specs.declared.token.Token.{Token}
 use Rattle.va_tree.specs.declared.source.Source.{Source}
 use Rattle.va_sem.specs.NamesFaults.{FaultAt}
-use Rattle.va_sem.specs.Faults.{IsLeast, Answered, IsLeastOfAll, KeepsRules, answered, least_of}
+use Rattle.va_sem.specs.Faults.{IsLeast, Answered, IsLeastOfAll, KeepsRules, answered, is_before, earlier_of, least_of}
 
 -- The least fault of a phase is the one that is answered, with the place of its token; there is none only where no fault stands.
 pub record LeastIsAnswered : Type 0 where
@@ -14,6 +14,19 @@ pub record LeastIsAnswered : Type 0 where
       → f.phase ≡ phase → least_of faults ≡ Some (f.at, f.code) → slice_get e.tokens f.at ≡ Some token → f.place ≡ token.place
       → IsLeast e phase faults f
   pub none : (faults : List FaultAt) → least_of faults ≡ None → faults ≡ []
+
+-- the earlier of two faults of a phase, where there are such
+abbrev pub earlier : Option FaultAt → Option FaultAt → Option FaultAt
+earlier None other = other
+earlier (Some a) other = Some (earlier_of a other)
+
+-- The least of a list of faults can be found part by part, and in any order: it is the one that is there and that none comes before.
+pub record LeastByParts : Type 0 where
+  pub of_parts : (first second : List FaultAt) → least_of (first ++ second) ≡ earlier (least_of first) (least_of second)
+  pub there : (faults : List FaultAt) (m : FaultAt) → least_of faults ≡ Some m → Contains faults m
+  pub least : (faults : List FaultAt) (m other : FaultAt) → least_of faults ≡ Some m → Contains faults other → is_before other m ≡ false
+  pub only : (faults : List FaultAt) (m : FaultAt) → Contains faults m → ((other : FaultAt) → Contains faults other → is_before other m ≡ false)
+      → least_of faults ≡ Some m
 
 -- a fault that is answered, with its token and its code
 pub record IsAnsweredAt (e : Expanded) (s : Source) (at : FaultAt) (f : Fault) : Type 0 where

@@ -1,4 +1,5 @@
 pub mod Branches
+pub mod BranchesLaws
 pub mod Builtins
 pub mod Checked
 pub mod Declarations
@@ -13,6 +14,7 @@ pub mod MeaningsLaws
 pub mod NamesFaults
 pub mod OwnTokens
 pub mod Scopes
+pub mod ScopesLaws
 pub mod Sites
 pub mod SmallTrees
 pub mod TextOrder

@@ -183,6 +183,14 @@ abbrev pub second_types : FunctionEntry → NameAt → List ℕ
 second_types f argument =
     map (λ (v : VariableEntry). v.name.at) (seconds (filter (λ (v : VariableEntry). bytes_eq v.name.name argument.name) (typed_in_function f)))
 
+-- In a function its own name is declared as its result, and the name of a built-in function can't be declared. So a type that one of
+-- these is given is a second declaration, also where it is an argument's name.
+abbrev pub is_taken : FunctionEntry → Bytes → Bool
+is_taken f name = bytes_eq name f.name.name || is_builtin name
+
+abbrev pub types_of_taken : FunctionEntry → List ℕ
+types_of_taken f = map (λ (v : VariableEntry). v.name.at) (filter (λ (v : VariableEntry). is_taken f v.name.name) (typed_in_function f))
+
 -- the statements of a module, those in statements and functions with them
 abbrev pub all_statements : Module → List Statement
 all_statements m = flat_map statements_in (analog_bodies m ++ map (λ (f : FunctionEntry). f.body) (functions_of m))
@@ -196,6 +204,7 @@ twice_in_module m =
     flat_map declaration_faults (scopes_of m)
     ++ all_at TwiceDeclared (flat_map (second_disciplines (disciplines_given_in m)) m.ports)
     ++ all_at TwiceDeclared (flat_map (λ (f : FunctionEntry). flat_map (second_types f) (argument_names f)) (functions_of m))
+    ++ all_at TwiceDeclared (flat_map types_of_taken (functions_of m))
     ++ all_at TwiceDeclared (flat_map second_defaults (all_statements m))
 
 -- ports that are given no discipline

@@ -18,8 +18,7 @@ use Rattle.va_tree.specs.Declarations.{initialisers, declared}
 use Rattle.va_tree.specs.Parts.{Part, expression, statement, body_parts, range_parts}
 use Rattle.va_sem.specs.declared.builtin.Builtin.{Builtin}
 use Rattle.va_sem.specs.declared.builtin.Builtin.TheVariants.{One, Two, Abs, Min, Max, LimExp, Ddt, LeftOut}
-use Rattle.va_sem.specs.declared.builtin.SystemFunction.{SystemFunction}
-use Rattle.va_sem.specs.declared.builtin.SystemFunction.TheVariants.{Temperature, ThermalVoltage, Limit, SimParam, ParamGiven}
+use Rattle.va_sem.specs.declared.builtin.SystemFunction.TheVariants.{SimParam}
 use Rattle.va_sem.specs.declared.builtin.SystemName.{SystemName}
 use Rattle.va_sem.specs.declared.builtin.SystemName.TheVariants as system
 use Rattle.va_sem.specs.declared.names.Names.{Names}
@@ -28,90 +27,12 @@ use Rattle.va_sem.specs.declared.names.NameUse.{NameUse}
 use Rattle.va_sem.specs.declared.names.Meaning.{Meaning}
 use Rattle.va_sem.specs.declared.names.Meaning.TheVariants as means
 use Rattle.va_sem.specs.Lookup.{Bytes}
-use Rattle.va_sem.specs.Builtins.{builtin_at, takes, system_takes, system_name_of}
+use Rattle.va_sem.specs.Builtins.{builtin_at, Taken, taken_at, string_fits, system_name_of}
 use Rattle.va_sem.specs.LookedAt.{looked_at, looked_at_in_statement}
 use Rattle.va_sem.specs.Walks.{block_declarations}
 use Rattle.va_sem.specs.Declarations.{ParameterEntry, parameters_of}
 use Rattle.va_sem.specs.NamesFaults.{FaultAt, fault_if, all_statements}
-use Rattle.va_sem.specs.Typing.{Typing, typing_of, signature_at, type_of, meaning_at, modules_with}
-
-abbrev pub argument_count : Arguments → ℕ
-argument_count no_more = 0
-argument_count (text_then text rest) = argument_count rest + 1
-argument_count (expression_then e rest) = argument_count rest + 1
-
--- whether a call takes so many arguments (Mathematical functions, User-defined analog functions)
-abbrev pub builtin_takes : Option Builtin → ℕ → Bool
-builtin_takes None n = true
-builtin_takes (Some b) n = takes b n
-
-abbrev pub meaning_takes : Typing → Option Meaning → ℕ → Bool
-meaning_takes t (Some (means.Builtin row)) n = builtin_takes (builtin_at row) n
-meaning_takes t (Some (means.Function f)) n = length (signature_at t.functions f).arguments == n
-meaning_takes t other n = true
-
-abbrev pub system_name_takes : Option SystemName → ℕ → Bool
-system_name_takes (Some (system.Function f)) n = system_takes f n
-system_name_takes other n = true
-
-abbrev pub call_takes : Typing → ℕ → Callee → Bytes → ℕ → Bool
-call_takes t at callee.Function bytes n = meaning_takes t (meaning_at t.uses at) n
-call_takes t at callee.System bytes n = system_name_takes (system_name_of bytes) n
-
--- what a function takes at a place
-pub data Taken : Type 0 where
-  a_number : Taken
-  a_string : Taken
-  an_access : Taken
-  a_parameter : Taken
-  anything : Taken
-
--- of a system function, at a place from 0 on (Environment parameter functions)
-abbrev pub taken_by : SystemFunction → ℕ → Taken
-taken_by Temperature place = a_number
-taken_by ThermalVoltage place = a_number
-taken_by Limit place = if place == 0 then an_access else anything
-taken_by SimParam place = if place == 0 then a_string else a_number
-taken_by ParamGiven place = a_parameter
-
-abbrev pub taken_by_name : Option SystemName → ℕ → Taken
-taken_by_name (Some (system.Function f)) place = taken_by f place
-taken_by_name other place = anything
-
-abbrev pub taken_at : Callee → Bytes → ℕ → Taken
-taken_at callee.Function bytes place = a_number
-taken_at callee.System bytes place = taken_by_name (system_name_of bytes) place
-
-abbrev pub string_fits : Taken → Bool
-string_fits a_number = false
-string_fits a_string = true
-string_fits an_access = false
-string_fits a_parameter = false
-string_fits anything = true
-
-abbrev pub means_access : Option Meaning → Bool
-means_access (Some (means.Access branch turned flow)) = true
-means_access other = false
-
-abbrev pub means_parameter : Option Meaning → Bool
-means_parameter (Some (means.Param n)) = true
-means_parameter other = false
-
--- an access and no more, and the bare name of a parameter
-abbrev pub is_access_call : List NameUse → Expression → Bool
-is_access_call uses (call at callee.Function bytes args) = means_access (meaning_at uses at)
-is_access_call uses other = false
-
-abbrev pub is_parameter_name : List NameUse → Expression → Bool
-is_parameter_name uses (name at bytes) = means_parameter (meaning_at uses at)
-is_parameter_name uses other = false
-
-abbrev pub expression_fits : List NameUse → Taken → Expression → Bool
-expression_fits uses a_number e = true
-expression_fits uses a_string e = false
-expression_fits uses an_access e = is_access_call uses e
-expression_fits uses a_parameter e = is_parameter_name uses e
-expression_fits uses anything e = true
+use Rattle.va_sem.specs.Typing.{Typing, typing_of, type_of, meaning_at, argument_count, call_takes, expression_fits, modules_with}
 
 -- arguments of another kind than is taken, where the first of the list stands at a place
 abbrev pub kind_faults : List NameUse → (ℕ → Taken) → ℕ → Arguments → List FaultAt

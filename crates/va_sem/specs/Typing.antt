@@ -28,7 +28,7 @@ use Rattle.va_sem.specs.declared.names.Meaning.{Meaning}
 use Rattle.va_sem.specs.declared.names.Meaning.TheVariants as means
 use Rattle.va_sem.specs.declared.typed.Typed.{Typed}
 use Rattle.va_sem.specs.Lookup.{Bytes}
-use Rattle.va_sem.specs.Builtins.{builtin_at, answer_type, system_answer_type, common, system_name_of}
+use Rattle.va_sem.specs.Builtins.{builtin_at, takes, system_takes, Taken, a_number, a_string, an_access, a_parameter, anything, taken_at, string_fits, answer_type, system_answer_type, common, system_name_of}
 use Rattle.va_sem.specs.declared.builtin.Builtin.{Builtin}
 use Rattle.va_sem.specs.LookedAt.{looked_at, call_looks}
 use Rattle.va_sem.specs.Declarations.{VariableEntry, ParameterEntry, FunctionEntry, variables_of, parameters_of, functions_of, arguments_of_function}
@@ -51,6 +51,63 @@ meaning_at uses at = option_map (λ (u : NameUse). u.meaning) (find (λ (u : Nam
 
 abbrev pub signature_at : List Signature → ℕ → Signature
 signature_at functions n = get_or functions n (record { arguments = []; result = Real })
+
+abbrev pub argument_count : Arguments → ℕ
+argument_count no_more = 0
+argument_count (text_then text rest) = argument_count rest + 1
+argument_count (expression_then e rest) = argument_count rest + 1
+
+-- whether a call takes so many arguments (Mathematical functions, User-defined analog functions)
+abbrev pub builtin_takes : Option Builtin → ℕ → Bool
+builtin_takes None n = true
+builtin_takes (Some b) n = takes b n
+
+abbrev pub meaning_takes : Typing → Option Meaning → ℕ → Bool
+meaning_takes t (Some (means.Builtin row)) n = builtin_takes (builtin_at row) n
+meaning_takes t (Some (means.Function f)) n = length (signature_at t.functions f).arguments == n
+meaning_takes t other n = true
+
+abbrev pub system_name_takes : Option SystemName → ℕ → Bool
+system_name_takes (Some (system.Function f)) n = system_takes f n
+system_name_takes other n = true
+
+abbrev pub call_takes : Typing → ℕ → Callee → Bytes → ℕ → Bool
+call_takes t at callee.Function bytes n = meaning_takes t (meaning_at t.uses at) n
+call_takes t at callee.System bytes n = system_name_takes (system_name_of bytes) n
+
+abbrev pub means_access : Option Meaning → Bool
+means_access (Some (means.Access branch turned flow)) = true
+means_access other = false
+
+abbrev pub means_parameter : Option Meaning → Bool
+means_parameter (Some (means.Param n)) = true
+means_parameter other = false
+
+-- an access and no more, and the bare name of a parameter
+abbrev pub is_access_call : List NameUse → Expression → Bool
+is_access_call uses (call at callee.Function bytes args) = means_access (meaning_at uses at)
+is_access_call uses other = false
+
+abbrev pub is_parameter_name : List NameUse → Expression → Bool
+is_parameter_name uses (name at bytes) = means_parameter (meaning_at uses at)
+is_parameter_name uses other = false
+
+abbrev pub expression_fits : List NameUse → Taken → Expression → Bool
+expression_fits uses a_number e = true
+expression_fits uses a_string e = false
+expression_fits uses an_access e = is_access_call uses e
+expression_fits uses a_parameter e = is_parameter_name uses e
+expression_fits uses anything e = true
+
+-- whether all arguments are of the kinds that are taken, where the first of the list stands at a place
+abbrev pub kinds_fit : List NameUse → (ℕ → Taken) → ℕ → Arguments → Bool
+kinds_fit uses taken place no_more = true
+kinds_fit uses taken place (text_then text rest) = string_fits (taken place) && kinds_fit uses taken (place + 1) rest
+kinds_fit uses taken place (expression_then e rest) = expression_fits uses (taken place) e && kinds_fit uses taken (place + 1) rest
+
+-- whether a call has as many arguments as it takes, and of these kinds
+abbrev pub arguments_fit : Typing → ℕ → Callee → Bytes → Arguments → Bool
+arguments_fit t at callee bytes args = call_takes t at callee bytes (argument_count args) && kinds_fit t.uses (taken_at callee bytes) 0 args
 
 -- of a name that is read; where it has no type it is real
 abbrev pub type_of_meaning : Typing → Option Meaning → Ty
@@ -82,23 +139,24 @@ type_of_binary Divide a b = either_type a b
 type_of_binary Remainder a b = either_type a b
 type_of_binary Power a b = Real
 
--- of a call, by the types of its arguments: a string has none
+-- Of a call, by whether its arguments fit, and by their types: a string has none. A call of a built-in or system function whose
+-- arguments don't fit has no type.
 abbrev pub type_of_builtin : Option Builtin → List (Option Ty) → Ty
 type_of_builtin None arguments = Real
 type_of_builtin (Some b) arguments = answer_type b arguments
 
-abbrev pub type_of_called : Typing → List (Option Ty) → Option Meaning → Ty
-type_of_called t arguments (Some (means.Builtin row)) = type_of_builtin (builtin_at row) arguments
-type_of_called t arguments (Some (means.Function n)) = (signature_at t.functions n).result
-type_of_called t arguments other = Real
+abbrev pub type_of_called : Typing → Bool → List (Option Ty) → Option Meaning → Ty
+type_of_called t fit arguments (Some (means.Builtin row)) = if fit then type_of_builtin (builtin_at row) arguments else Real
+type_of_called t fit arguments (Some (means.Function n)) = (signature_at t.functions n).result
+type_of_called t fit arguments other = Real
 
-abbrev pub type_of_system : List (Option Ty) → Option SystemName → Ty
-type_of_system arguments (Some (system.Function f)) = system_answer_type f arguments
-type_of_system arguments other = Real
+abbrev pub type_of_system : Bool → List (Option Ty) → Option SystemName → Ty
+type_of_system fit arguments (Some (system.Function f)) = if fit then system_answer_type f arguments else Real
+type_of_system fit arguments other = Real
 
-abbrev pub type_of_call : Typing → ℕ → Callee → Bytes → List (Option Ty) → Ty
-type_of_call t at callee.Function bytes arguments = type_of_called t arguments (meaning_at t.uses at)
-type_of_call t at callee.System bytes arguments = type_of_system arguments (system_name_of bytes)
+abbrev pub type_of_call : Typing → ℕ → Callee → Bytes → Bool → List (Option Ty) → Ty
+type_of_call t at callee.Function bytes fit arguments = type_of_called t fit arguments (meaning_at t.uses at)
+type_of_call t at callee.System bytes fit arguments = type_of_system fit arguments (system_name_of bytes)
 
 -- of a numeral
 abbrev pub type_of_literal : Bool → Ty
@@ -114,7 +172,7 @@ abbrev mutual
   type_of t (unary at op operand) = type_of_unary op (type_of t operand)
   type_of t (binary at left op right) = type_of_binary op (type_of t left) (type_of t right)
   type_of t (choose at test a b) = either_type (type_of t a) (type_of t b)
-  type_of t (call at callee bytes args) = type_of_call t at callee bytes (types_of_arguments t args)
+  type_of t (call at callee bytes args) = type_of_call t at callee bytes (arguments_fit t at callee bytes args) (types_of_arguments t args)
 
   pub types_of_arguments : Typing → Arguments → List (Option Ty)
   types_of_arguments t no_more = []

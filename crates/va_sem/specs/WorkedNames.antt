@@ -119,6 +119,11 @@ pub record WorkedSecondDeclarations : Type 0 where
   pub second_argument : answered (text (plain (items.Function 93 None (n 95 (codes "f")) (function.Input 97 (n 98 (codes "x") ∷ n 100 (codes "x") ∷ []) ∷ []) (Assign 102 (codes "f") (Name 104 (codes "x")))) ∷ [])) ≡ Some (100, TwiceDeclared)
   -- analog function f; input x; real f; f = x; endfunction
   pub own_name_in_function : answered (text (plain (items.Function 93 None (n 95 (codes "f")) (function.Input 97 (n 98 (codes "x") ∷ []) ∷ function.Variables 100 written.Real (n 101 (codes "f") ∷ []) ∷ []) (Assign 103 (codes "f") (Name 105 (codes "x")))) ∷ [])) ≡ Some (101, TwiceDeclared)
+  -- the type of an argument that may not have this name
+  -- analog function real f; real f; input f; f = 1; endfunction
+  pub own_name_as_typed_argument : answered (text (plain (items.Function 93 (Some written.Real) (n 96 (codes "f")) (function.Variables 98 written.Real (n 99 (codes "f") ∷ []) ∷ function.Input 101 (n 102 (codes "f") ∷ []) ∷ []) (Assign 104 (codes "f") (whole 106 1))) ∷ [])) ≡ Some (99, TwiceDeclared)
+  -- analog function f; real exp; input exp; f = 1; endfunction
+  pub builtin_as_typed_argument : answered (text (plain (items.Function 93 None (n 95 (codes "f")) (function.Variables 97 written.Real (n 98 (codes "exp") ∷ []) ∷ function.Input 100 (n 101 (codes "exp") ∷ []) ∷ []) (Assign 103 (codes "f") (whole 105 1))) ∷ [])) ≡ Some (98, TwiceDeclared)
   -- wherever the items stand
   -- real x; analog case (1) default x = 1; 1: x = 2; default: x = 3; endcase
   pub second_default : answered (text (plain (items.Variables (declares 93 written.Real (stored (n 94 (codes "x")) None ∷ []))) ∷ plain (items.Analog 96 (Case 97 (whole 99 1) (item 106 ((whole 106 1) ∷ []) (Assign 108 (codes "x") (whole 110 2)) ∷ []) (by_default 101 (Assign 102 (codes "x") (whole 104 1)) ∷ by_default 112 (Assign 114 (codes "x") (whole 116 3)) ∷ []))) ∷ [])) ≡ Some (112, TwiceDeclared)

@@ -115,6 +115,16 @@ pub record WorkedRemainders : Type 0 where
   -- it has the type of its default
   -- integer k; analog k = 2 % $simparam("a", 1);
   pub of_simparam : answered (text (plain (items.Variables (declares 93 written.Integer (stored (n 94 (codes "k")) None ∷ []))) ∷ plain (items.Analog 96 (Assign 97 (codes "k") (Binary 99 (whole 99 2) Remainder (Call 101 callee.System (codes "$simparam") (arg.Text (n 103 (codes "a")) ∷ arg.Expr (whole 105 1) ∷ []))))) ∷ [])) ≡ None
+  -- a call whose arguments don't fit has no type
+  -- integer k; analog k = 2 % abs();
+  pub of_abs_of_none : answered (text (plain (items.Variables (declares 93 written.Integer (stored (n 94 (codes "k")) None ∷ []))) ∷ plain (items.Analog 96 (Assign 97 (codes "k") (Binary 99 (whole 99 2) Remainder (Call 101 callee.Function (codes "abs") [])))) ∷ [])) ≡ Some (99, RealOperand)
+  -- integer k; analog k = 2 % $simparam("x", 1, 2.0);
+  pub of_simparam_of_three : answered (text (plain (items.Variables (declares 93 written.Integer (stored (n 94 (codes "k")) None ∷ []))) ∷ plain (items.Analog 96 (Assign 97 (codes "k") (Binary 99 (whole 99 2) Remainder (Call 101 callee.System (codes "$simparam") (arg.Text (n 103 (codes "x")) ∷ arg.Expr (whole 105 1) ∷ arg.Expr (decimal 107 20 (negsuc 0)) ∷ []))))) ∷ [])) ≡ Some (99, RealOperand)
+  -- integer k; analog k = 2 % $param_given(k);
+  pub of_given_of_variable : answered (text (plain (items.Variables (declares 93 written.Integer (stored (n 94 (codes "k")) None ∷ []))) ∷ plain (items.Analog 96 (Assign 97 (codes "k") (Binary 99 (whole 99 2) Remainder (Call 101 callee.System (codes "$param_given") (arg.Expr (Name 103 (codes "k")) ∷ []))))) ∷ [])) ≡ Some (99, RealOperand)
+  -- the type of a function of the module is known, whatever its arguments
+  -- analog function integer f; input x; f = x; endfunction integer k; analog k = 2 % f();
+  pub of_function_of_none : answered (text (plain (items.Function 93 (Some written.Integer) (n 96 (codes "f")) (function.Input 98 (n 99 (codes "x") ∷ []) ∷ []) (Assign 101 (codes "f") (Name 103 (codes "x")))) ∷ plain (items.Variables (declares 106 written.Integer (stored (n 107 (codes "k")) None ∷ []))) ∷ plain (items.Analog 109 (Assign 110 (codes "k") (Binary 112 (whole 112 2) Remainder (Call 114 callee.Function (codes "f") [])))) ∷ [])) ≡ Some (114, ArgumentCount)
   -- integer k; analog k = 2 % 2 ** 3;
   pub of_power : answered (text (plain (items.Variables (declares 93 written.Integer (stored (n 94 (codes "k")) None ∷ []))) ∷ plain (items.Analog 96 (Assign 97 (codes "k") (Binary 99 (whole 99 2) Remainder (Binary 101 (whole 101 2) Power (whole 103 3))))) ∷ [])) ≡ Some (99, RealOperand)
   -- a quotient of integers is an integer

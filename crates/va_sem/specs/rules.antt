@@ -9,6 +9,7 @@ pub mod ModuleBody
 pub mod ModuleTables
 pub mod RuleLaws
 pub mod SmallModule
+pub mod SureContributions
 pub mod TimeDerivatives
 pub mod Unknowns
 pub mod Uses

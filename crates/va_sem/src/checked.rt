@@ -1,5 +1,7 @@
 //! Texts that keep all rules, with what is known of them.
 ghost use Rattle.std.specs.Prelude.{◌≡◌, ◌<◌, All, IfOk, Some, map, zip, length, slice_get};
+ghost use Rattle.va_tree.specs.OwnTokens.{EachNameHasItsToken};
+ghost use Rattle.va_sem.specs.Checked.{IsOfSize};
 ghost use Rattle.va_sem.specs.Meanings.{names_of};
 ghost use Rattle.va_sem.specs.Typing.{types_of};
 ghost use Rattle.va_sem.specs.Faults.{KeepsRules, HasSoundNumerals};
@@ -78,13 +80,16 @@ fn unknowns_of_modules(
 }
 
 impl Checked {
-    /// The checked text of a tree that keeps all rules and whose numerals are sound, with its names and types.
+    /// The checked text of a tree of allowed size that keeps all rules, whose names have tokens of their own and whose numerals
+    /// are sound, with its names and types.
     pub fn seal(
         alloc: Global,
         source: Source,
         names: Names,
         typed: Typed,
     ) -> Result<Checked, NoMemory>
+        requires size { IsOfSize source }
+        requires tokens { EachNameHasItsToken source }
         requires names { names ≡ names_of source }
         requires types { typed ≡ types_of source (names_of source) }
         requires keeps { KeepsRules source }
@@ -143,8 +148,10 @@ impl Checked {
         self.unknowns.as_list()[m].as_list()
     }
 
-    /// It keeps all rules, and its numerals are sound.
+    /// It is of allowed size, its names have tokens of their own, it keeps all rules, and its numerals are sound.
     pub fn keeps_rules(&self)
+        ensures size { IsOfSize self.now }
+        ensures tokens { EachNameHasItsToken self.now }
         ensures rules { KeepsRules self.now }
         ensures numerals { HasSoundNumerals self.now }
     {

@@ -12,7 +12,7 @@ ghost use Rattle.va_sem.specs.Builtins.{argument_looked_at};
 ghost use Rattle.va_sem.specs.LookedAt.{looked_at, looked_at_in_arguments, call_looks, looks};
 ghost use Rattle.va_sem.specs.rules.BranchKinds.{is_zero, signed_zero};
 ghost use Rattle.va_sem.specs.rules.Values.{assigned, contributed, value_for, values_in, values_in_statements, values_in_items, values_in_defaults, is_evaluated as event_counts};
-ghost use Rattle.va_sem.specs.rules.Findings.{IsRead, Enters, Visits, values_in_else, variable_found, contribution_found, meanings_in, looked_at_first, looked_at_if, flows_read, in_expr, in_item, in_initialiser, in_variable, in_declaration, reads_biased as name_reads_biased};
+ghost use Rattle.va_sem.specs.rules.Findings.{IsRead, IsTested, Enters, Visits, values_in_else, variable_found, contribution_found, meanings_in, looked_at_first, looked_at_if, flows_read, in_expr, in_item, in_initialiser, in_variable, in_declaration, reads_biased as name_reads_biased};
 
 use crate::builtin::{SystemFunction, SystemName, system_name};
 use crate::names::Meaning;
@@ -484,6 +484,20 @@ fn assign_in_head(
     )
 }
 
+/// Reads a condition over statements, under others of which some is biased or none, and answers whether one of all is biased.
+fn read_condition(
+    test: &Expr,
+    under: bool,
+    meanings: &BTreeMap<u32, Meaning>,
+    biased: &[bool],
+    findings: &mut Vec<Finding>,
+) -> Result<bool, AllocError>
+    ensures { IfOk result (IsTested (listed biased.now) under (meanings_in (tree.get nat_cmp meanings.now) (looked_at (expression_of test.now))) findings.old.items findings.new.items) }
+{
+    let answer = read(test, meanings, biased, findings)?;
+    Ok(either(answer, under))
+}
+
 /// Reads what a statement evaluates itself, before the statements in it, and answers whether some condition over these is biased.
 fn enter(
     s: &Stmt,
@@ -500,10 +514,7 @@ fn enter(
             let _any = read_declarations(declarations.as_list(), meanings, biased, findings)?;
             Ok(under)
         }
-        Stmt::If { test, .. } => {
-            let answer = read(test, meanings, biased, findings)?;
-            Ok(either(answer, under))
-        }
+        Stmt::If { test, .. } => read_condition(test, under, meanings, biased, findings),
         Stmt::Case {
             selector,
             items,
@@ -525,14 +536,8 @@ fn enter(
             assign_in_head(step, inside, meanings, biased, findings)?;
             Ok(inside)
         }
-        Stmt::While { test, .. } => {
-            let answer = read(test, meanings, biased, findings)?;
-            Ok(either(answer, under))
-        }
-        Stmt::Repeat { count, .. } => {
-            let answer = read(count, meanings, biased, findings)?;
-            Ok(either(answer, under))
-        }
+        Stmt::While { test, .. } => read_condition(test, under, meanings, biased, findings),
+        Stmt::Repeat { count, .. } => read_condition(count, under, meanings, biased, findings),
         Stmt::Event { .. } => Ok(under),
         Stmt::Assign { at, value, .. } => {
             assign(*at, value, under, meanings, biased, findings)?;
@@ -598,9 +603,7 @@ pub fn visit(
                 Ok(())
             }
         }
-        Stmt::Assign { .. } => Ok(()),
-        Stmt::Contribute { .. } => Ok(()),
-        Stmt::Task { .. } => Ok(()),
+        Stmt::Assign { .. } | Stmt::Contribute { .. } | Stmt::Task { .. } => Ok(()),
     }
 }
 

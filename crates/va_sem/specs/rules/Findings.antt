@@ -114,6 +114,11 @@ pub record IsRead (biased : ℕ → Bool) (meanings : List (Option Meaning)) (ol
   pub answer_is : answer ≡ list_any (reads_biased biased) meanings
   pub found : new ≡ old ++ flat_map flows_read meanings
 
+-- The same walk over a condition, under others of which some is biased or none, answers whether one of all is biased.
+pub record IsTested (biased : ℕ → Bool) (under : Bool) (meanings : List (Option Meaning)) (old new : List Finding) (answer : Bool) : Type 0 where
+  pub answer_is : answer ≡ list_any (reads_biased biased) meanings || under
+  pub found : new ≡ old ++ flat_map flows_read meanings
+
 -- the expressions in an expression, in the values of an item of a `case`, in an initialiser, and in a declaration
 abbrev pub in_expr : Expr → List Expression
 in_expr e = looked_at (expression_of e)

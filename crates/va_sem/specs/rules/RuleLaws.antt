@@ -1,6 +1,6 @@
 -- What biased, timed and dependent variables are: the least sets that are closed under the rules.
 use Rattle.std.specs.Prelude.{ℕ, Bool, List, length}
-use Rattle.alg_laws.specs.Least.{Within}
+use Rattle.alg_laws.specs.Least.{Within, IsMonotone}
 use Rattle.va_tree.specs.declared.module.Module.{Module}
 use Rattle.va_tree.specs.declared.source.Source.{Source}
 use Rattle.va_tree.specs.Statements.{Statement}
@@ -31,3 +31,18 @@ pub record RulesGiveLeastSets : Type 0 where
       → let names = names_of_module s number m in
       let a = analysis_of names blocks in
       IsLeast names (reactive_by types names a u (resistive_variables types names a u)) (reactive_variables types names a u)
+
+-- The rules are monotone: from a larger set of variables at least as many follow.
+pub record RulesAreMonotone : Type 0 where
+  pub biased : (s : Source) (number : ℕ) (m : Module) (blocks : List Statement)
+      → let names = names_of_module s number m in
+      let a = analysis_of names blocks in IsMonotone (length names.vars) (biased_by a.meaning a.values)
+  pub timed : (s : Source) (number : ℕ) (m : Module) (blocks : List Statement)
+      → let names = names_of_module s number m in
+      let a = analysis_of names blocks in IsMonotone (length names.vars) (timed_by a.meaning a.values)
+  pub resistive : (types : Typing) (s : Source) (number : ℕ) (m : Module) (blocks : List Statement) (u : Unknown)
+      → let names = names_of_module s number m in
+      let a = analysis_of names blocks in IsMonotone (length names.vars) (resistive_by types names a u)
+  pub reactive : (types : Typing) (s : Source) (number : ℕ) (m : Module) (blocks : List Statement) (u : Unknown) (resistive : ℕ → Bool)
+      → let names = names_of_module s number m in
+      let a = analysis_of names blocks in IsMonotone (length names.vars) (reactive_by types names a u resistive)

@@ -1,6 +1,5 @@
 -- The tables of a module that were worked out by hand.
-use Rattle.std.specs.Prelude.{◌≡◌, ℕ, pos, Bool, true, false, List, [], ◌∷◌, Some, None, codes, map}
-use Rattle.alg_laws.specs.declared.number.Ty.TheVariants.{Integer, Real}
+use Rattle.std.specs.Prelude.{◌≡◌, ℕ, pos, Bool, true, false, List, [], ◌∷◌, Option, Some, None, codes, map}
 use Rattle.va_base.specs.Tables.{Tables, NodeLine, EntryLine, ParameterLine, instance, model, operating_point}
 use Rattle.va_tree.specs.declared.expr.Arg.{Arg}
 use Rattle.va_tree.specs.declared.expr.Arg.TheVariants.{Text, Expr as Value}
@@ -11,6 +10,7 @@ use Rattle.va_tree.specs.declared.module.ItemBody.{ItemBody}
 use Rattle.va_tree.specs.declared.module.ItemBody.TheVariants.{Parameters, Alias, Variables}
 use Rattle.va_tree.specs.declared.module.Module.{Module}
 use Rattle.va_tree.specs.declared.module.Parameter.{Parameter}
+use Rattle.va_tree.specs.declared.module.Ty.{Ty}
 use Rattle.va_tree.specs.declared.module.Ty.TheVariants as written
 use Rattle.va_tree.specs.declared.module.Variable.{Variable}
 use Rattle.va_tree.specs.declared.name.NameAt.{NameAt}
@@ -29,7 +29,7 @@ use Rattle.va_sem.specs.declared.names.ModuleNames.{ModuleNames}
 use Rattle.va_sem.specs.declared.names.NameUse.{NameUse}
 use Rattle.va_sem.specs.declared.names.NodeName.{NodeName}
 use Rattle.va_sem.specs.Lookup.{Bytes}
-use Rattle.va_sem.specs.Typing.{Typing}
+use Rattle.va_sem.specs.Typing.{Typing, typing_of}
 use Rattle.va_sem.specs.rules.Biased.{analysis_of}
 use Rattle.va_sem.specs.rules.ModuleTables.{tables_by}
 use Rattle.va_sem.specs.rules.Written.{Written, Access, parameter, reads, between, ddt, contributes, begins, number}
@@ -76,16 +76,16 @@ described attributes body = record {
   body = body;
 }
 
-abbrev pub one_parameter : Bool → ℕ → Bytes → ItemBody
-one_parameter local token name =
-    Parameters 10 local None (let p : Parameter = record { name = at token name; default = one; ranges = [] } in p ∷ [])
+abbrev pub one_parameter : Bool → Option Ty → ℕ → Bytes → ItemBody
+one_parameter local ty token name =
+    Parameters 10 local ty (let p : Parameter = record { name = at token name; default = one; ranges = [] } in p ∷ [])
 
 abbrev pub one_variable : Bytes → ItemBody
 one_variable name =
     Variables
     (record { at = 10; ty = written.Real; variables = (let v : Variable = record { name = at 10 name; initialiser = None } in v ∷ []) })
 
--- parameter w = 1;
+-- parameter real w = 1;
 -- (* type = "instance", desc = "size" *) parameter area = 1;
 -- localparam k = 1;
 -- (* type = "instance", type = 1, units = "m" *) parameter q = 1;
@@ -94,10 +94,10 @@ one_variable name =
 -- (* desc = 1 *) real y;
 abbrev pub items : List Item
 items =
-    described [] (one_parameter false 11 (codes "w"))
-    ∷ described (attribute (codes "type") (string (codes "instance")) ∷ attribute (codes "desc") (string (codes "size")) ∷ []) (one_parameter false 12 (codes "area"))
-    ∷ described [] (one_parameter true 13 (codes "k"))
-    ∷ described (attribute (codes "type") (string (codes "instance")) ∷ attribute (codes "type") (Value one) ∷ attribute (codes "units") (string (codes "m")) ∷ []) (one_parameter false 14 (codes "q"))
+    described [] (one_parameter false (Some written.Real) 11 (codes "w"))
+    ∷ described (attribute (codes "type") (string (codes "instance")) ∷ attribute (codes "desc") (string (codes "size")) ∷ []) (one_parameter false None 12 (codes "area"))
+    ∷ described [] (one_parameter true None 13 (codes "k"))
+    ∷ described (attribute (codes "type") (string (codes "instance")) ∷ attribute (codes "type") (Value one) ∷ attribute (codes "units") (string (codes "m")) ∷ []) (one_parameter false None 14 (codes "q"))
     ∷ described [] (Alias 20 (at 21 (codes "qq")) (at 23 (codes "q")))
     ∷ described (attribute (codes "desc") (string (codes "a current")) ∷ attribute (codes "units") (string (codes "C")) ∷ attribute (codes "units") (Value one) ∷ []) (one_variable (codes "x"))
     ∷ described (attribute (codes "desc") (Value one) ∷ []) (one_variable (codes "y"))
@@ -142,9 +142,9 @@ to_pair = record { branch = 1; flow = false; names = means.Node 0 ∷ means.Node
 abbrev pub to_single : Access
 to_single = record { branch = 2; flow = false; names = means.Node 1 ∷ [] }
 
--- k alone is an integer
+-- the module's own types: those parameters are integers that have their default's type
 abbrev pub coil_types : List NameUse → Typing
-coil_types uses = record { uses = uses; variables = Real ∷ Real ∷ []; parameters = Real ∷ Real ∷ Integer ∷ Real ∷ []; functions = [] }
+coil_types uses = typing_of uses coil
 
 abbrev pub tables_with : Written Statement → Tables
 tables_with s =
@@ -166,9 +166,9 @@ reactive row column = record { row = row; column = column; resistive = false; re
 
 abbrev pub parameters : List ParameterLine
 parameters =
-    record { name = codes "area"; aliases = []; description = codes "size"; units = []; is_integer = false; kind = instance }
+    record { name = codes "area"; aliases = []; description = codes "size"; units = []; is_integer = true; kind = instance }
     ∷ record { name = codes "w"; aliases = []; description = []; units = []; is_integer = false; kind = model }
-    ∷ record { name = codes "q"; aliases = codes "qq" ∷ []; description = []; units = codes "m"; is_integer = false; kind = model }
+    ∷ record { name = codes "q"; aliases = codes "qq" ∷ []; description = []; units = codes "m"; is_integer = true; kind = model }
     ∷ record { name = codes "x"; aliases = []; description = codes "a current"; units = []; is_integer = false; kind = operating_point }
     ∷ []
 

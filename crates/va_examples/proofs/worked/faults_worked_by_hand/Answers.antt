@@ -10,6 +10,7 @@ unfolding hidden-the_row-Expr-0 shape-the_row-Expr-0 hidden-the_row-Arg-1 shape-
 returns c = record {
   unknown_name = refl;
   twice_declared = refl;
+  own_name_with_a_type = refl;
   wrong_kind = refl;
   wrong_access = refl;
   disciplines_differ = refl;
@@ -20,6 +21,7 @@ returns c = record {
   argument_kind = refl;
   not_constant = refl;
   real_operand = refl;
+  operand_without_type = refl;
   ddt_nonlinear = refl;
   ddt_under_bias = refl;
   ddt_in_loop = refl;
