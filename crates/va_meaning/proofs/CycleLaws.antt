@@ -7,6 +7,7 @@ use Rattle.std.proofs.lemmas.Option.{slice_get-map, slice_get_within}
 use Rattle.va_base.specs.declared.fault.FaultCode.TheVariants.{FunctionCycle}
 use Rattle.alg_laws.specs.Operations.{Operations}
 use Rattle.va_sem.proofs.NumberedNames.{names_are_numbered}
+use Rattle.va_sem.proofs.OwnTokens.{own_tokens}
 use Rattle.va_sem.specs.declared.names.Meaning.TheVariants as means
 use Rattle.va_sem.specs.Declarations.{VariableEntry, FunctionEntry, functions_of, variables_of}
 use Rattle.va_sem.specs.Meanings.{Known, known_of}
@@ -143,7 +144,11 @@ module _ (s : Source) (number : ℕ) (m : Module) (sound : IsOfSoundNames s numb
       (nested_to n f r.element r.is (count_most n (reached made n (number_at tokens (token r.element)))))
 
 pub cycle_laws : CycleLaws
-cycle_laws = record { nested = nested }
+cycle_laws = record {
+  nested = nested;
+  in_texts = λ s number m stands names own.
+      record { stands = stands; names = names; tokens = own_tokens s own m (index_has s.modules number m stands) };
+}
 
 -- the functions that names mean are functions of the module
 called_within : (s : Source) (number : ℕ) (m : Module) (at g : ℕ) → (module_seen s number m).meaning at ≡ Some (means.Function g) → g < length (module_seen s number m).functions

@@ -6,6 +6,7 @@ use Rattle.va_sem.specs.NamesFaults.{names_faults}
 use Rattle.va_sem.specs.OwnTokens.{HasOwnTokens}
 use Rattle.va_tree.specs.declared.module.Module.{Module}
 use Rattle.va_tree.specs.declared.source.Source.{Source}
+use Rattle.va_tree.specs.OwnTokens.{EachNameHasItsToken}
 use Rattle.va_meaning.specs.Elaboration.{module_seen}
 use Rattle.va_meaning.specs.Evaluation.{functions, functions_to, evaluated, evaluated_to}
 use Rattle.va_meaning.specs.Nesting.{IsWithoutCycle}
@@ -18,9 +19,12 @@ pub record IsOfSoundNames (s : Source) (number : ℕ) (m : Module) : Type 0 wher
   pub names : names_faults s ≡ []
   pub tokens : HasOwnTokens s m
 
--- In such a module calls are never nested deeper than there are functions.
+-- In such a module calls are never nested deeper than there are functions. Each module of a text is such a one where the names of
+-- the text have no fault and each of them has its token, as in every tree that is built.
 pub record CycleLaws : Type 0 where
   pub nested : (s : Source) (number : ℕ) (m : Module) → IsOfSoundNames s number m → IsWithoutCycle (module_seen s number m)
+  pub in_texts : (s : Source) (number : ℕ) (m : Module) → slice_get s.modules number ≡ Some m → names_faults s ≡ []
+      → EachNameHasItsToken s → IsOfSoundNames s number m
 
 -- So its functions mean the same however much deeper they are seen, and so does every evaluation.
 pub record DepthsInModules (V : Type 0) (o : Operations V) (valid : V → Type 0) : Type 0 where
