@@ -1,4 +1,4 @@
-//! Tests of the crates that all others stand on: `va_base`, `va_io` and `predict`.
+//! Tests of the crates that all others stand on: `va_base`, `va_io`, `predict` and `graphs`.
 #![tactic(auto)]
 
 #[cfg(test)]
@@ -7,6 +7,8 @@ mod files;
 mod grammars;
 #[cfg(test)]
 mod parsing;
+#[cfg(test)]
+mod reaching;
 #[cfg(test)]
 mod sinks;
 #[cfg(test)]
