@@ -1,7 +1,7 @@
 -- From statements that are done to the statement that holds them.
-use Rattle.std.specs.Prelude.{◌≡◌, ◌+◌, ◌≤◌, ℕ, true, false, List, [], ◌∷◌, ◌++◌, Option, Some, None, length, refl}
+use Rattle.std.specs.Prelude.{◌≡◌, ◌+◌, ◌<◌, ◌≤◌, ℕ, true, false, List, [], ◌∷◌, ◌++◌, Option, Some, None, length, refl}
 use Rattle.std.specs.Option.{is_some}
-use Rattle.std.proofs.Common.{ap, sym, ◌∙◌, arith}
+use Rattle.std.proofs.Common.{ap, sym, ◌∙◌, arith, length-append}
 use Rattle.va_base.specs.declared.expanded.Expanded.{Expanded}
 use Rattle.va_tree.specs.declared.expr.Expr.{Expr}
 use Rattle.va_tree.specs.declared.stmt.Stmt.{Stmt}
@@ -48,3 +48,20 @@ pub without_else : (o : Option Stmt) (front one two done : List Stmt) (at : ℕ)
     → ((f : List Stmt) (x : Stmt) → two ≡ f ++ x ∷ [] → done ≡ f ++ If at test x None ∷ []) → done ≡ front ++ If at test a o ∷ []
 without_else None front one two done at test a s h k close = close front a (k ∙ sym (nothing_behind one) ∙ h)
 without_else (Some b) front one two done at test a s h k close = cc
+
+-- a statement is there
+pub some_done : (front done : List Stmt) (s : Stmt) → done ≡ front ++ s ∷ [] → 0 < length done
+some_done front done s h = omega (arith, ap length h, length-append front (s ∷ []))
+
+-- what was there before is there
+pub one_there : (front one two more : List Stmt) (s : Stmt) → one ≡ front ++ s ∷ [] → two ≡ one ++ more → 0 < length two
+one_there front one two more s h k = omega (arith, ap length h, length-append front (s ∷ []), ap length k, length-append one more)
+
+-- the statement of an `if` and that of its `else` are there
+pub two_there : (o : Option Stmt) (front one two : List Stmt) (s : Stmt) → is_some o ≡ true → one ≡ front ++ s ∷ [] → two ≡ one ++ listed o → 1 < length two
+two_there None front one two s is h k = cc
+two_there (Some b) front one two s is h k = omega (arith, ap length h, length-append front (s ∷ []), ap length k, length-append one (b ∷ []))
+
+-- where the statements of a block begin
+pub start_within : (front body done : List Stmt) (start : ℕ) → done ≡ front ++ body → start ≡ length front → start ≤ length done
+start_within front body done start h is = omega (arith, ap length h, length-append front body, is)

@@ -1,6 +1,8 @@
 pub mod TakenRows
 pub mod OperatorRows
 pub mod HeadRows
+pub mod DueRows
+pub mod OperandsDue
 pub mod ListEnds
 pub mod DoneStatements
 pub mod TreesBack

@@ -12,7 +12,7 @@ use Rattle.va_build.specs.Reading.{row_symbols, symbols_at, parts_from}
 use Rattle.va_grammar.specs.Rows.{rows}
 use Rattle.predict.specs.Sets.{Sets, with_kinds}
 use Rattle.va_grammar.specs.Sets.{va_grammar, va_rules, va_sets}
-use Rattle.va_build.specs.SizeScan.{AreDerived}
+use Rattle.va_build.specs.Due.{AreDerived}
 use Rattle.predict.proofs.Lists.{implied, at_each, each_told}
 use Rattle.va_grammar.proofs.VaSymbols.{row_written}
 

@@ -6,7 +6,7 @@ use Rattle.predict.specs.FirstFit.{Written}
 use Rattle.va_build.specs.Reading.{row_symbols, parts_from}
 use Rattle.va_build.specs.SizeDeep.{earlier}
 use Rattle.va_build.specs.SizeRows.{links, rule_of, deep_opened, depth_below, depth_last, name_opened, dues, deep_in, deep_due, modules_in, modules_due}
-use Rattle.va_build.specs.SizeScan.{AreDerived}
+use Rattle.va_build.specs.Due.{AreDerived}
 
 -- what the row's tree holds is the nodes that begin with it, and what is due below it
 abbrev pub RowHolds : ℕ → ℕ → Type 0

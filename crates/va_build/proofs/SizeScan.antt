@@ -1,33 +1,34 @@
 -- Steps through a parse tree.
-use Rattle.std.specs.Prelude.{◌≡◌, ℕ, ◌+◌, List, [], ◌∷◌, ◌++◌, Option, refl, map}
+use Rattle.std.specs.Prelude.{◌≡◌, ◌<◌, ℕ, ◌+◌, List, [], ◌∷◌, ◌++◌, Option, None, Some, refl, map, reverse, length}
 use Rattle.std.proofs.Common.{ap, sym, ◌∙◌, subst, arith, append_assoc}
 use Rattle.predict.specs.declared.symbol.Symbol.{Symbol}
 use Rattle.predict.specs.declared.symbol.Symbol.TheVariants.{Kind, Left}
 use Rattle.predict.specs.declared.tree.ParseNode.{ParseNode}
 use Rattle.predict.specs.Sentence.{IsTreeOf, ArePartsOf}
-use Rattle.predict.specs.Tree.{Tree, node}
+use Rattle.predict.specs.Tree.{Tree, node, no_parts}
 use Rattle.va_base.specs.declared.expanded.Expanded.{Expanded}
 use Rattle.predict.specs.FirstFit.{IsRowOf}
 use Rattle.va_grammar.specs.Parts.{symbol_of}
 use Rattle.va_build.specs.Reading.{row_symbols, parts_from, first_tree, later_trees, trees_behind, trees_of}
 use Rattle.va_grammar.specs.Sets.{va_grammar, va_rules}
 use Rattle.va_build.specs.SizeDeep.{earlier}
-use Rattle.va_build.specs.SizeRows.{links, rule_of, deep_opened, depth_below, depth_last, due, dues, name_opened, deep_in, modules_in, deep_due, modules_due}
-use Rattle.va_build.specs.SizeScan.{AreDerived, symbols_due, due_parts, SameDue}
+use Rattle.va_build.specs.SizeRows.{links, rule_of, deep_opened, depth_below, depth_last, due, dues, name_opened, deep_in, modules_in, deep_due, modules_due, links_of}
+use Rattle.va_build.specs.Due.{AreDerived}
+use Rattle.va_build.specs.SizeScan.{many, symbols_due, symbols_width, AreFew, due_parts, SameDue, NothingDue}
 use Rattle.va_build.specs.Width.{width, width_of}
 use Rattle.va_grammar.specs.declared.rows.Part.{Part}
 use Rattle.va_build.specs.declared.size_rules.Due.{Due}
-use Rattle.va_build.proofs.SizeAlgebra.{earlier_assoc}
+use Rattle.va_build.proofs.SizeAlgebra.{earlier_assoc, earlier_none}
 use Rattle.va_build.proofs.SizeAllRows.{row_holds, names_hold}
 use Rattle.va_build.proofs.SizeDerived.{symbols_same}
 use Rattle.va_grammar.proofs.VaSymbols.{row_written}
 
 pub same_due : (before : List Due) (at : ℕ) → SameDue before at before at
-same_due before at = record { deep = λ e ts. refl; modules = λ e ts. refl; derived = λ ts h. h }
+same_due before at = record { deep = λ e ts. refl; modules = λ e ts. refl; derived = λ ts h. h; behind = λ ts. refl; wide = λ ts. refl }
 
 -- a token is passed
 pub token_passed : (before now : List Due) (at at_now k depth : ℕ) → SameDue before at (due (Kind k) depth ∷ now) at_now → SameDue before at now (at_now + 1)
-token_passed before now at at_now k depth h = record { deep = h.deep; modules = h.modules; derived = h.derived }
+token_passed before now at at_now k depth h = record { deep = h.deep; modules = h.modules; derived = h.derived; behind = h.behind; wide = λ ts. omega (arith, h.wide ts) }
 
 -- the symbols of a row
 dues_symbols : (symbols : List Symbol) (below last : ℕ) → symbols_due (dues symbols below last) ≡ symbols
@@ -47,10 +48,6 @@ derived_append (Left l ∷ symbols) others ts h k = (h.0, derived_append symbols
 -- how many tokens some parts spell
 abbrev width_at : List Symbol → List Tree → ℕ
 width_at symbols ts = width_of (parts_from symbols ts)
-
--- what is due in front, and behind it
-abbrev symbols_width : List Due → List Tree → ℕ
-symbols_width ds ts = width_at (symbols_due ds) ts
 
 -- what one thing that is due adds in front
 deep_one : (e : Expanded) (s : Symbol) (depth : ℕ) (ds more : List Due) (at : ℕ) (ts : List Tree) →
@@ -153,3 +150,78 @@ dues_pushed (p ∷ q ∷ parts) part below last ds = ap (λ (l : List Due). due 
 -- the heads and the tails of equal lists
 pub same_parts : (x y : ℕ) (xs ys : List ℕ) → x ∷ xs ≡ y ∷ ys → (x ≡ y) × (xs ≡ ys)
 same_parts x y xs ys e = (cc, cc)
+
+behind_append : (a b : List Symbol) (ts : List Tree) → trees_behind (a ++ b) ts ≡ trees_behind b (trees_behind a ts)
+behind_append [] b ts = refl
+behind_append (Kind k ∷ a) b ts = behind_append a b ts
+behind_append (Left l ∷ a) b ts = behind_append a b (later_trees ts)
+
+-- a node is taken: the trees behind what is due then
+pub behind_step : (l below last : ℕ) (n : ParseNode) (nodes : List ParseNode) (ds : List Due) → trees_behind (Left l ∷ symbols_due ds) (trees_of (n ∷ nodes)) ≡ [] → trees_behind (symbols_due (dues (row_symbols n.row) below last ++ ds)) (trees_of nodes) ≡ []
+behind_step l below last n nodes ds h =
+    let symbols : List Symbol = row_symbols n.row in
+    ap (λ (s : List Symbol). trees_behind s (trees_of nodes)) (symbols_append (dues symbols below last) ds ∙ ap (λ (s : List Symbol). s ++ symbols_due ds) (dues_symbols symbols below last))
+    ∙ behind_append symbols (symbols_due ds) (trees_of nodes) ∙ h
+
+-- where a node is left, a tree is due, and links of it
+pub tree_due : (before : List Due) (at : ℕ) (n : ParseNode) (nodes : List ParseNode) → NothingDue before at → trees_behind (symbols_due before) (trees_of (n ∷ nodes)) ≡ [] → ⊥
+tree_due before at n nodes none h = no_trees _ _ (sym (none.1.behind (trees_of (n ∷ nodes))) ∙ h)
+  where
+    no_trees : (t : Tree) (ts : List Tree) → t ∷ ts ≡ [] → ⊥
+    no_trees t ts h = cc
+
+no_links : (i : ℕ) (is : List ℕ) → i ∷ is ≡ [] → ⊥
+no_links i is h = cc
+
+pub link_due : (items : List ℕ) (n : ParseNode) (nodes : List ParseNode) → reverse items ≡ links_of (n ∷ nodes) → 0 < length items
+link_due [] n nodes h = absurd (no_links _ _ (sym h))
+link_due (i ∷ items) n nodes h = omega arith
+
+-- where no node is left, no tree is due
+no_tree : (l next : ℕ) → IsTreeOf va_rules l (node 0 no_parts) next → ⊥
+unfolding va_rules
+no_tree l next h = h.1
+
+no_deep : (e : Expanded) (ds : List Due) (at : ℕ) → AreDerived (symbols_due ds) [] → deep_due e ds at [] ≡ None
+no_deep e [] at h = refl
+no_deep e (d ∷ ds) at h = one d.symbol d.depth (λ i k. no_deep e ds i k) h
+  where
+    one : (s : Symbol) (depth : ℕ) → ((i : ℕ) → AreDerived (symbols_due ds) [] → deep_due e ds i [] ≡ None) → AreDerived (s ∷ symbols_due ds) [] → deep_due e (due s depth ∷ ds) at [] ≡ None
+    one (Kind k) depth rest h = rest (at + 1) h
+    one (Left l) depth rest h = absurd (no_tree l h.0.0 h.0.1)
+
+no_modules : (e : Expanded) (ds : List Due) (at : ℕ) → AreDerived (symbols_due ds) [] → modules_due e ds at [] ≡ []
+no_modules e [] at h = refl
+no_modules e (d ∷ ds) at h = one d.symbol d.depth (λ i k. no_modules e ds i k) h
+  where
+    one : (s : Symbol) (depth : ℕ) → ((i : ℕ) → AreDerived (symbols_due ds) [] → modules_due e ds i [] ≡ []) → AreDerived (s ∷ symbols_due ds) [] → modules_due e (due s depth ∷ ds) at [] ≡ []
+    one (Kind k) depth rest h = rest (at + 1) h
+    one (Left l) depth rest h = absurd (no_tree l h.0.0 h.0.1)
+
+pub deep_ended : (e : Expanded) (deep whole : Option ℕ) (ds : List Due) (at : ℕ) (ts : List Tree) → ts ≡ [] → AreDerived (symbols_due ds) ts → earlier deep (deep_due e ds at ts) ≡ whole → deep ≡ whole
+deep_ended e deep whole ds at ts is derived h =
+    sym (earlier_none deep) ∙ ap (earlier deep) (sym (ap (deep_due e ds at) is ∙ no_deep e ds at (subst (AreDerived (symbols_due ds)) is derived))) ∙ h
+
+none_ahead : (extra : Option ℕ) (room : ℕ) → many extra room [] ≡ extra
+none_ahead None room = refl
+none_ahead (Some name) room = refl
+
+pub extra_ended : (e : Expanded) (extra whole : Option ℕ) (room : ℕ) (ds : List Due) (at : ℕ) (ts : List Tree) → ts ≡ [] → AreDerived (symbols_due ds) ts → many extra room (modules_due e ds at ts) ≡ whole → extra ≡ whole
+extra_ended e extra whole room ds at ts is derived h =
+    sym (none_ahead extra room) ∙ ap (many extra room) (sym (ap (modules_due e ds at) is ∙ no_modules e ds at (subst (AreDerived (symbols_due ds)) is derived))) ∙ h
+
+width_append : (a b : List Symbol) (ts : List Tree) → width_at (a ++ b) ts ≡ width_at a ts + width_at b (trees_behind a ts)
+width_append [] b ts = omega arith
+width_append (Kind k ∷ a) b ts = omega (arith, width_append a b ts)
+width_append (Left l ∷ a) b ts = omega (arith, width_append a b (later_trees ts))
+
+-- a node is taken: the tokens that what is due then spells
+pub wide_step : (l below last : ℕ) (n : ParseNode) (nodes : List ParseNode) (ds : List Due) → symbols_width (dues (row_symbols n.row) below last ++ ds) (trees_of nodes) ≡ width_at (Left l ∷ symbols_due ds) (trees_of (n ∷ nodes))
+wide_step l below last n nodes ds =
+    let symbols : List Symbol = row_symbols n.row in
+    ap (λ (s : List Symbol). width_at s (trees_of nodes)) (symbols_append (dues symbols below last) ds ∙ ap (λ (s : List Symbol). s ++ symbols_due ds) (dues_symbols symbols below last))
+    ∙ width_append symbols (symbols_due ds) (trees_of nodes)
+
+-- a token that is due is one of a text
+pub token_fits : (before now : List Due) (at at_now k depth : ℕ) → AreFew before at → SameDue before at (due (Kind k) depth ∷ now) at_now → at_now < 2000000
+token_fits before now at at_now k depth few same = omega (arith, few.1, same.wide few.0)

@@ -5,6 +5,7 @@ pub mod SourceStatements
 pub mod SourceItems
 pub mod SourceOf
 pub mod Reading
+pub mod Due
 pub mod StatementHeads
 pub mod AttributeLists
 pub mod Directions

@@ -1,10 +1,13 @@
 //! Reading attributes.
 //!
-//! Each function takes the next tree of the parse tree, and its tokens with it. A row that the nonterminal does not have, which
-//! no parse tree holds, is answered as want of memory is.
+//! Each function takes the next tree of the parse tree, and its tokens with it.
 ghost use Rattle.std.specs.Prelude.{◌≡◌, [], ◌∷◌, IfOk};
 ghost use Rattle.va_base.specs.Expansion.{IsExpanded};
 ghost use Rattle.va_build.specs.AttributeLists.{ReadsGroup};
+ghost use Rattle.va_grammar.specs.Rows.{rule, token};
+ghost use Rattle.va_grammar.specs.declared.nonterminal.Nonterminal.TheVariants as nonterminal;
+ghost use Rattle.va_grammar.specs.declared.terminal.Terminal.TheVariants as terminal;
+ghost use Rattle.va_build.specs.Due.{AreDue, IsDue};
 ghost use Rattle.va_build.specs.Reading.{Reads};
 ghost use Rattle.va_build.specs.SourceItems as source_items;
 
@@ -22,27 +25,29 @@ fn attribute_value(
     e: &Expanded,
     reader: &mut Reader<'_>,
 ) -> Result<Option<Arg>, AllocError>
-    requires { IsExpanded e.now }
+    requires expanded { IsExpanded e.now }
+    requires due { IsDue nonterminal.AttributeValue reader.old }
     ensures { IfOk result (λ v. Reads (source_items.attribute_value e.now) reader.old reader.new v) }
 {
-    match reader.row()? {
+    match reader.enter() {
         row::ATTRIBUTE_VALUE => {
-            reader.token()?;
+            reader.pass();
             let value = argument(alloc, e, reader)?;
             Ok(Some(value))
         }
         row::NO_ATTRIBUTE_VALUE => Ok(None),
-        _ => Err(AllocError),
+        _ => unreachable!(),
     }
 }
 
 /// An attribute.
 fn attribute(alloc: Global, e: &Expanded, reader: &mut Reader<'_>) -> Result<Attribute, AllocError>
-    requires { IsExpanded e.now }
+    requires expanded { IsExpanded e.now }
+    requires due { IsDue nonterminal.Attribute reader.old }
     ensures { IfOk result (λ v. Reads (source_items.attribute e.now) reader.old reader.new (v ∷ [])) }
 {
-    reader.take(row::ATTRIBUTE)?;
-    let at = reader.token()?;
+    reader.enter();
+    let at = reader.pass();
     let name = name_at(alloc, e, at)?;
     let value = attribute_value(alloc, e, reader)?;
     Ok(Attribute { at, name, value })
@@ -55,32 +60,34 @@ fn attributes_behind(
     reader: &mut Reader<'_>,
     first: Attribute,
 ) -> Result<Vec<Attribute>, AllocError>
-    requires { IsExpanded e.now }
+    requires expanded { IsExpanded e.now }
+    requires due { IsDue nonterminal.MoreAttributes reader.old }
     ensures { IfOk result (λ v. Reads (λ at t. first ∷ source_items.more_attributes e.now at t) reader.old reader.new v.items) }
 {
     let mut list = vec![in alloc; first]?;
     loop {
-        match reader.row()? {
+        match reader.enter() {
             row::MORE_ATTRIBUTES => {
-                reader.token()?;
+                reader.pass();
                 let next = attribute(alloc, e, reader)?;
                 list.push(next)?;
             }
             row::NO_MORE_ATTRIBUTES => return Ok(list),
-            _ => return Err(AllocError),
+            _ => unreachable!(),
         }
     }
 }
 
 /// What stands between one `(*` and its `*)`, and both of them.
 fn group(alloc: Global, e: &Expanded, reader: &mut Reader<'_>) -> Result<AttributeGroup, AllocError>
-    requires { IsExpanded e.now }
+    requires expanded { IsExpanded e.now }
+    requires due { AreDue (token terminal.AttributeOpen ∷ rule nonterminal.Attribute ∷ rule nonterminal.MoreAttributes ∷ token terminal.AttributeClose ∷ rule nonterminal.Attributes ∷ []) reader.old }
     ensures { IfOk result (ReadsGroup e.now reader.old reader.new) }
 {
-    reader.token()?;
+    reader.pass();
     let first = attribute(alloc, e, reader)?;
     let list = attributes_behind(alloc, e, reader, first)?;
-    reader.token()?;
+    reader.pass();
     Ok(AttributeGroup {
         attributes: Items::new(list),
     })
@@ -92,18 +99,19 @@ pub(crate) fn attribute_groups(
     e: &Expanded,
     reader: &mut Reader<'_>,
 ) -> Result<Vec<AttributeGroup>, AllocError>
-    requires { IsExpanded e.now }
+    requires expanded { IsExpanded e.now }
+    requires due { IsDue nonterminal.Attributes reader.old }
     ensures { IfOk result (λ v. Reads (source_items.attribute_groups e.now) reader.old reader.new v.items) }
 {
     let mut list = Vec::new(alloc);
     loop {
-        match reader.row()? {
+        match reader.enter() {
             row::ATTRIBUTES => {
                 let next = group(alloc, e, reader)?;
                 list.push(next)?;
             }
             row::NO_ATTRIBUTES => return Ok(list),
-            _ => return Err(AllocError),
+            _ => unreachable!(),
         }
     }
 }

@@ -1,9 +1,10 @@
 //! Reading disciplines (Disciplines).
 //!
-//! Each function takes the next tree of the parse tree, and its tokens with it. A row that the nonterminal does not have, which
-//! no parse tree holds, is answered as want of memory is.
+//! Each function takes the next tree of the parse tree, and its tokens with it.
 ghost use Rattle.std.specs.Prelude.{◌≡◌, [], ◌∷◌, IfOk};
 ghost use Rattle.va_base.specs.Expansion.{IsExpanded};
+ghost use Rattle.va_grammar.specs.declared.nonterminal.Nonterminal.TheVariants as nonterminal;
+ghost use Rattle.va_build.specs.Due.{IsDue};
 ghost use Rattle.va_build.specs.Reading.{Reads, first_tree, trees};
 ghost use Rattle.va_build.specs.SourceOf as top_level;
 
@@ -24,13 +25,14 @@ fn binding(
     start: u32,
     of: Quantity,
 ) -> Result<DisciplineItem, AllocError>
-    requires { IsExpanded e.now }
+    requires expanded { IsExpanded e.now }
+    requires due { IsDue nonterminal.NatureBinding reader.old }
     ensures { IfOk result (λ v. Reads (top_level.binding e.now start of) reader.old reader.new v) }
 {
-    match reader.row()? {
+    match reader.enter() {
         row::BINDING => {
             let nature = named(alloc, e, reader)?;
-            reader.token()?;
+            reader.pass();
             Ok(DisciplineItem::Binding {
                 at: start,
                 quantity: of,
@@ -38,11 +40,11 @@ fn binding(
             })
         }
         row::OVERRIDE => {
-            reader.token()?;
+            reader.pass();
             let name = named(alloc, e, reader)?;
-            reader.token()?;
+            reader.pass();
             let value = argument(alloc, e, reader)?;
-            reader.token()?;
+            reader.pass();
             Ok(DisciplineItem::Override {
                 at: start,
                 quantity: of,
@@ -50,7 +52,7 @@ fn binding(
                 value,
             })
         }
-        _ => Err(AllocError),
+        _ => unreachable!(),
     }
 }
 
@@ -60,27 +62,28 @@ fn discipline_item(
     e: &Expanded,
     reader: &mut Reader<'_>,
 ) -> Result<DisciplineItem, AllocError>
-    requires { IsExpanded e.now }
+    requires expanded { IsExpanded e.now }
+    requires due { IsDue nonterminal.DisciplineItem reader.old }
     ensures { IfOk result (λ v. Reads (top_level.discipline_item e.now) reader.old reader.new v) }
 {
-    match reader.row()? {
+    match reader.enter() {
         row::POTENTIAL => {
-            let start = reader.token()?;
+            let start = reader.pass();
             let value = binding(alloc, e, reader, start, Quantity::Potential)?;
             Ok(value)
         }
         row::FLOW => {
-            let start = reader.token()?;
+            let start = reader.pass();
             let value = binding(alloc, e, reader, start, Quantity::Flow)?;
             Ok(value)
         }
         row::DOMAIN => {
-            let at = reader.token()?;
+            let at = reader.pass();
             let name = named(alloc, e, reader)?;
-            reader.token()?;
+            reader.pass();
             Ok(DisciplineItem::Domain { at, name })
         }
-        _ => Err(AllocError),
+        _ => unreachable!(),
     }
 }
 
@@ -90,18 +93,19 @@ fn discipline_items(
     e: &Expanded,
     reader: &mut Reader<'_>,
 ) -> Result<Vec<DisciplineItem>, AllocError>
-    requires { IsExpanded e.now }
+    requires expanded { IsExpanded e.now }
+    requires due { IsDue nonterminal.DisciplineItems reader.old }
     ensures { IfOk result (λ v. Reads (top_level.discipline_items e.now) reader.old reader.new v.items) }
 {
     let mut list = Vec::new(alloc);
     loop {
-        match reader.row()? {
+        match reader.enter() {
             row::DISCIPLINE_ITEMS => {
                 let next = discipline_item(alloc, e, reader)?;
                 list.push(next)?;
             }
             row::NO_DISCIPLINE_ITEMS => return Ok(list),
-            _ => return Err(AllocError),
+            _ => unreachable!(),
         }
     }
 }
@@ -113,18 +117,19 @@ pub(crate) fn discipline_of(
     reader: &mut Reader<'_>,
     attributes: Vec<AttributeGroup>,
 ) -> Result<Discipline, AllocError>
-    requires { IsExpanded e.now }
+    requires expanded { IsExpanded e.now }
+    requires due { IsDue nonterminal.DisciplineDeclaration reader.old }
     ensures discipline { IfOk result (λ v. Reads (top_level.discipline_of e.now attributes.items) reader.old reader.new (v ∷ [])) }
     ensures no_nature { IfOk result (λ _. top_level.nature e.now attributes.items reader.old.at (first_tree (trees reader.old)) ≡ []) }
     ensures no_module { IfOk result (λ _. top_level.module_of e.now attributes.items reader.old.at (first_tree (trees reader.old)) ≡ []) }
 {
-    reader.take(row::DISCIPLINE)?;
-    reader.token()?;
-    let at = reader.token()?;
+    reader.enter();
+    reader.pass();
+    let at = reader.pass();
     let name = name_at(alloc, e, at)?;
-    semicolon(reader)?;
+    semicolon(reader);
     let items = discipline_items(alloc, e, reader)?;
-    reader.token()?;
+    reader.pass();
     Ok(Discipline {
         attributes: Items::new(attributes),
         at,

@@ -1,7 +1,5 @@
 //! Statements that are done, and taking those that a statement holds from the end of their list.
-//!
-//! Where the list is shorter than is needed, which never is so, that is answered as want of memory is.
-ghost use Rattle.std.specs.Prelude.{◌≡◌, [], ◌∷◌, ◌++◌, IfOk, OnOk, None, Some, List, drop, length, take};
+ghost use Rattle.std.specs.Prelude.{◌≡◌, ◌<◌, ◌≤◌, [], ◌∷◌, ◌++◌, IfOk, OnOk, None, Some, List, drop, length, take};
 ghost use Rattle.va_build.specs.SourceStatements.{defaulted};
 ghost use Rattle.va_build.specs.StatementHeads.{item_of, turn_of};
 ghost use Rattle.va_tree.specs.declared.stmt.Stmt.{Stmt};
@@ -14,17 +12,22 @@ use va_base::Items;
 use va_tree::{CaseDefault, CaseItem, Declaration, Expr, NameAt, Stmt};
 
 /// The statement at the end of the list.
-pub(crate) fn last(done: &mut Vec<Stmt>) -> Result<Stmt, AllocError>
-    ensures { IfOk result (λ s. done.old.items ≡ done.new.items ++ s ∷ []) }
+pub(crate) fn last(done: &mut Vec<Stmt>) -> Stmt
+    requires { 0 < length done.old.items }
+    ensures { done.old.items ≡ done.new.items ++ result ∷ [] }
 {
-    done.pop().ok_or(AllocError)
+    let Some(statement) = done.pop() else {
+        unreachable!();
+    };
+    statement
 }
 
 /// Puts a head before the last statement.
 pub(crate) fn close_turn(alloc: Global, done: &mut Vec<Stmt>, turn: Turn) -> Result<(), AllocError>
+    requires { 0 < length done.old.items }
     ensures { OnOk result ((front : List Stmt) (body : Stmt) → done.old.items ≡ front ++ body ∷ [] → done.new.items ≡ front ++ turn_of turn body ∷ []) }
 {
-    let body = last(done)?;
+    let body = last(done);
     let value = with_body(alloc, turn, body)?;
     done.push(value)?;
     Ok(())
@@ -36,9 +39,10 @@ pub(crate) fn close_if(
     done: &mut Vec<Stmt>,
     test: Condition,
 ) -> Result<(), AllocError>
+    requires { 0 < length done.old.items }
     ensures { OnOk result ((front : List Stmt) (body : Stmt) → done.old.items ≡ front ++ body ∷ [] → done.new.items ≡ front ++ Stmt.If test.at test.value body None ∷ []) }
 {
-    let body = last(done)?;
+    let body = last(done);
     let yes = Boxed::new(alloc, body)?;
     done.push(Stmt::If {
         at: test.at,
@@ -55,11 +59,12 @@ pub(crate) fn close_if_else(
     done: &mut Vec<Stmt>,
     test: Condition,
 ) -> Result<(), AllocError>
+    requires { 1 < length done.old.items }
     ensures { OnOk result ((front : List Stmt) (a b : Stmt) → done.old.items ≡ front ++ a ∷ b ∷ [] → done.new.items ≡ front ++ Stmt.If test.at test.value a (Some b) ∷ []) }
 {
-    let last_body = last(done)?;
+    let last_body = last(done);
     let no = Boxed::new(alloc, last_body)?;
-    let body = last(done)?;
+    let body = last(done);
     let yes = Boxed::new(alloc, body)?;
     done.push(Stmt::If {
         at: test.at,
@@ -72,13 +77,11 @@ pub(crate) fn close_if_else(
 
 /// The statements from `start` on. Where these are all, nothing is copied.
 fn from_place(alloc: Global, done: &mut Vec<Stmt>, start: usize) -> Result<Vec<Stmt>, AllocError>
+    requires { start ≤ length done.old.items }
     ensures { IfOk result (λ body. (done.new.items ≡ take start done.old.items) × (body.items ≡ drop start done.old.items)) }
 {
     if start == 0 {
         return Ok(replace(done, Vec::new(alloc)));
-    }
-    if start > done.len() {
-        return Err(AllocError);
     }
     done.split_off(start)
 }
@@ -92,6 +95,7 @@ pub(crate) fn close_block(
     label: Option<NameAt>,
     list: Vec<Declaration>,
 ) -> Result<(), AllocError>
+    requires { start ≤ length done.old.items }
     ensures { OnOk result ((front body : List Stmt) → done.old.items ≡ front ++ body → start ≡ length front → done.new.items ≡ front ++ Stmt.Block at label list.items body ∷ []) }
 {
     let body = from_place(alloc, done, start)?;
@@ -111,9 +115,10 @@ pub(crate) fn close_item(
     at: u32,
     values: Vec<Expr>,
 ) -> Result<(), AllocError>
+    requires { 0 < length done.old.items }
     ensures { OnOk result ((front : List Stmt) (body : Stmt) → done.old.items ≡ front ++ body ∷ [] → (done.new.items ≡ front) × (items.new.items ≡ items.old.items ++ item_of at values.items body ∷ [])) }
 {
-    let body = last(done)?;
+    let body = last(done);
     items.push(CaseItem {
         at,
         values: Items::new(values),
@@ -128,9 +133,10 @@ pub(crate) fn close_default(
     defaults: &mut Vec<CaseDefault>,
     at: u32,
 ) -> Result<(), AllocError>
+    requires { 0 < length done.old.items }
     ensures { OnOk result ((front : List Stmt) (body : Stmt) → done.old.items ≡ front ++ body ∷ [] → (done.new.items ≡ front) × (defaults.new.items ≡ defaults.old.items ++ defaulted at body ∷ [])) }
 {
-    let body = last(done)?;
+    let body = last(done);
     defaults.push(CaseDefault { at, body })?;
     Ok(())
 }

@@ -1,9 +1,10 @@
 //! Reading analog blocks and functions (Analog procedural block, User-defined analog functions).
 //!
-//! Each function takes the next tree of the parse tree, and its tokens with it. A row that the nonterminal does not have, which
-//! no parse tree holds, is answered as want of memory is.
-ghost use Rattle.std.specs.Prelude.{[], ◌∷◌, IfOk};
+//! Each function takes the next tree of the parse tree, and its tokens with it.
+ghost use Rattle.std.specs.Prelude.{◌≡◌, [], ◌∷◌, IfOk};
 ghost use Rattle.va_base.specs.Expansion.{IsExpanded};
+ghost use Rattle.va_grammar.specs.declared.nonterminal.Nonterminal.TheVariants as nonterminal;
+ghost use Rattle.va_build.specs.Due.{IsDue, next_row};
 ghost use Rattle.va_build.specs.Reading.{Reads};
 ghost use Rattle.va_build.specs.SourceItems as source_items;
 
@@ -23,14 +24,15 @@ fn function_names(
     e: &Expanded,
     reader: &mut Reader<'_>,
 ) -> Result<FunctionItem, AllocError>
-    requires { IsExpanded e.now }
+    requires expanded { IsExpanded e.now }
+    requires due { IsDue nonterminal.FunctionItem reader.old }
     ensures { IfOk result (λ v. Reads (source_items.function_item e.now) reader.old reader.new (v ∷ [])) }
 {
-    let row = reader.row()?;
-    let at = reader.token()?;
+    let row = reader.enter();
+    let at = reader.pass();
     let first = named(alloc, e, reader)?;
     let list = names_behind(alloc, e, reader, first)?;
-    reader.token()?;
+    reader.pass();
     let names = Items::new(list);
     match row {
         row::FUNCTION_INPUT => Ok(FunctionItem::Input { at, names }),
@@ -44,7 +46,7 @@ fn function_names(
             ty: Ty::Integer,
             names,
         }),
-        _ => Err(AllocError),
+        _ => unreachable!(),
     }
 }
 
@@ -54,18 +56,19 @@ fn function_items(
     e: &Expanded,
     reader: &mut Reader<'_>,
 ) -> Result<Vec<FunctionItem>, AllocError>
-    requires { IsExpanded e.now }
+    requires expanded { IsExpanded e.now }
+    requires due { IsDue nonterminal.FunctionItems reader.old }
     ensures { IfOk result (λ v. Reads (source_items.function_items e.now) reader.old reader.new v.items) }
 {
     let mut list = Vec::new(alloc);
     loop {
-        match reader.row()? {
+        match reader.enter() {
             row::FUNCTION_ITEMS => {
                 let next = function_names(alloc, e, reader)?;
                 list.push(next)?;
             }
             row::NO_FUNCTION_ITEMS => return Ok(list),
-            _ => return Err(AllocError),
+            _ => unreachable!(),
         }
     }
 }
@@ -77,18 +80,19 @@ fn analog(
     reader: &mut Reader<'_>,
     start: u32,
 ) -> Result<ItemBody, AllocError>
-    requires { IsExpanded e.now }
+    requires expanded { IsExpanded e.now }
+    requires due { IsDue nonterminal.AnalogItem reader.old }
     ensures { IfOk result (λ v. Reads (source_items.analog e.now start) reader.old reader.new v) }
 {
-    match reader.row()? {
+    match reader.enter() {
         row::FUNCTION => {
-            reader.token()?;
-            let ty = optional_type(reader)?;
+            reader.pass();
+            let ty = optional_type(reader);
             let name = named(alloc, e, reader)?;
-            reader.token()?;
+            reader.pass();
             let list = function_items(alloc, e, reader)?;
             let body = one_statement(alloc, e, reader)?;
-            reader.token()?;
+            reader.pass();
             Ok(ItemBody::Function {
                 at: start,
                 ty,
@@ -101,7 +105,7 @@ fn analog(
             let body = one_statement(alloc, e, reader)?;
             Ok(ItemBody::Analog { at: start, body })
         }
-        _ => Err(AllocError),
+        _ => unreachable!(),
     }
 }
 
@@ -111,11 +115,13 @@ pub(crate) fn analog_item(
     e: &Expanded,
     reader: &mut Reader<'_>,
 ) -> Result<ItemBody, AllocError>
-    requires { IsExpanded e.now }
+    requires expanded { IsExpanded e.now }
+    requires due { IsDue nonterminal.ItemBody reader.old }
+    requires row { next_row reader.old ≡ 48 }
     ensures { IfOk result (λ v. Reads (source_items.item_body e.now) reader.old reader.new (v ∷ [])) }
 {
-    reader.take(row::ANALOG)?;
-    let start = reader.token()?;
+    reader.enter();
+    let start = reader.pass();
     let body = analog(alloc, e, reader, start)?;
     Ok(body)
 }

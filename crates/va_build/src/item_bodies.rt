@@ -1,10 +1,11 @@
 //! Reading the items of modules, without their attributes.
 //!
-//! Each function takes the next tree of the parse tree, and its tokens with it. A row that the nonterminal does not have, which
-//! no parse tree holds, is answered as want of memory is.
-ghost use Rattle.std.specs.Prelude.{[], ◌∷◌, IfOk};
+//! Each function takes the next tree of the parse tree, and its tokens with it.
+ghost use Rattle.std.specs.Prelude.{◌≡◌, ◌⊎◌, [], ◌∷◌, IfOk};
 ghost use Rattle.va_base.specs.Expansion.{IsExpanded};
 ghost use Rattle.va_build.specs.Directions.{ReadsDirected};
+ghost use Rattle.va_grammar.specs.declared.nonterminal.Nonterminal.TheVariants as nonterminal;
+ghost use Rattle.va_build.specs.Due.{IsDue, next_row};
 ghost use Rattle.va_build.specs.Reading.{Reads};
 ghost use Rattle.va_build.specs.SourceItems as source_items;
 
@@ -20,16 +21,24 @@ use va_grammar::row;
 use va_tree::{Direction, ItemBody, NameAt, Ty};
 
 /// `input`, `output` or `inout`.
-fn direction(reader: &mut Reader<'_>) -> Result<Direction, AllocError>
-    ensures { IfOk result (λ v. Reads (λ at t. source_items.direction t) reader.old reader.new v) }
+fn direction(reader: &mut Reader<'_>) -> Direction
+    requires due { IsDue nonterminal.Direction reader.old }
+    ensures { Reads (λ at t. source_items.direction t) reader.old reader.new result }
 {
-    let row = reader.row()?;
-    reader.token()?;
-    match row {
-        row::INPUT => Ok(Direction::Input),
-        row::OUTPUT => Ok(Direction::Output),
-        row::INOUT => Ok(Direction::Inout),
-        _ => Err(AllocError),
+    match reader.enter() {
+        row::INPUT => {
+            reader.pass();
+            Direction::Input
+        }
+        row::OUTPUT => {
+            reader.pass();
+            Direction::Output
+        }
+        row::INOUT => {
+            reader.pass();
+            Direction::Inout
+        }
+        _ => unreachable!(),
     }
 }
 
@@ -47,10 +56,11 @@ fn directed(
     reader: &mut Reader<'_>,
     name: NameAt,
 ) -> Result<Ports, AllocError>
-    requires { IsExpanded e.now }
+    requires expanded { IsExpanded e.now }
+    requires due { IsDue nonterminal.DirectionTail reader.old }
     ensures { IfOk result (λ v. ReadsDirected e.now name reader.old reader.new v.discipline v.names.items) }
 {
-    match reader.row()? {
+    match reader.enter() {
         row::DIRECTED_DISCIPLINE => {
             let first = named(alloc, e, reader)?;
             let names = names_behind(alloc, e, reader, first)?;
@@ -66,7 +76,7 @@ fn directed(
                 names,
             })
         }
-        _ => Err(AllocError),
+        _ => unreachable!(),
     }
 }
 
@@ -76,15 +86,17 @@ fn direction_item(
     e: &Expanded,
     reader: &mut Reader<'_>,
 ) -> Result<ItemBody, AllocError>
-    requires { IsExpanded e.now }
+    requires expanded { IsExpanded e.now }
+    requires due { IsDue nonterminal.ItemBody reader.old }
+    requires row { next_row reader.old ≡ 40 }
     ensures { IfOk result (λ v. Reads (source_items.item_body e.now) reader.old reader.new (v ∷ [])) }
 {
-    reader.take(row::DIRECTION_ITEM)?;
+    reader.enter();
     let at = reader.at();
-    let direction = direction(reader)?;
+    let direction = direction(reader);
     let name = named(alloc, e, reader)?;
     let ports = directed(alloc, e, reader, name)?;
-    reader.token()?;
+    reader.pass();
     Ok(ItemBody::Direction {
         at,
         direction,
@@ -95,15 +107,17 @@ fn direction_item(
 
 /// Nodes of a discipline.
 fn nodes(alloc: Global, e: &Expanded, reader: &mut Reader<'_>) -> Result<ItemBody, AllocError>
-    requires { IsExpanded e.now }
+    requires expanded { IsExpanded e.now }
+    requires due { IsDue nonterminal.ItemBody reader.old }
+    requires row { next_row reader.old ≡ 41 }
     ensures { IfOk result (λ v. Reads (source_items.item_body e.now) reader.old reader.new (v ∷ [])) }
 {
-    reader.take(row::NODES)?;
-    let at = reader.token()?;
+    reader.enter();
+    let at = reader.pass();
     let discipline = name_at(alloc, e, at)?;
     let first = named(alloc, e, reader)?;
     let names = names_behind(alloc, e, reader, first)?;
-    reader.token()?;
+    reader.pass();
     Ok(ItemBody::Nodes {
         at,
         discipline,
@@ -113,18 +127,20 @@ fn nodes(alloc: Global, e: &Expanded, reader: &mut Reader<'_>) -> Result<ItemBod
 
 /// Branches between two nodes, or of one (Branches).
 fn branch(alloc: Global, e: &Expanded, reader: &mut Reader<'_>) -> Result<ItemBody, AllocError>
-    requires { IsExpanded e.now }
+    requires expanded { IsExpanded e.now }
+    requires due { IsDue nonterminal.ItemBody reader.old }
+    requires row { next_row reader.old ≡ 42 }
     ensures { IfOk result (λ v. Reads (source_items.item_body e.now) reader.old reader.new (v ∷ [])) }
 {
-    reader.take(row::BRANCH)?;
-    let at = reader.token()?;
-    reader.token()?;
+    reader.enter();
+    let at = reader.pass();
+    reader.pass();
     let first = named(alloc, e, reader)?;
     let second = second_node(alloc, e, reader)?;
-    reader.token()?;
+    reader.pass();
     let name = named(alloc, e, reader)?;
     let names = names_behind(alloc, e, reader, name)?;
-    reader.token()?;
+    reader.pass();
     Ok(ItemBody::Branch {
         at,
         first,
@@ -135,15 +151,17 @@ fn branch(alloc: Global, e: &Expanded, reader: &mut Reader<'_>) -> Result<ItemBo
 
 /// An alias of a parameter (Aliasparam).
 fn alias(alloc: Global, e: &Expanded, reader: &mut Reader<'_>) -> Result<ItemBody, AllocError>
-    requires { IsExpanded e.now }
+    requires expanded { IsExpanded e.now }
+    requires due { IsDue nonterminal.ItemBody reader.old }
+    requires row { next_row reader.old ≡ 45 }
     ensures { IfOk result (λ v. Reads (source_items.item_body e.now) reader.old reader.new (v ∷ [])) }
 {
-    reader.take(row::ALIAS)?;
-    let at = reader.token()?;
+    reader.enter();
+    let at = reader.pass();
     let name = named(alloc, e, reader)?;
-    reader.token()?;
+    reader.pass();
     let target = named(alloc, e, reader)?;
-    reader.token()?;
+    reader.pass();
     Ok(ItemBody::Alias { at, name, target })
 }
 
@@ -153,17 +171,19 @@ fn variable_item(
     e: &Expanded,
     reader: &mut Reader<'_>,
 ) -> Result<ItemBody, AllocError>
-    requires { IsExpanded e.now }
+    requires expanded { IsExpanded e.now }
+    requires due { IsDue nonterminal.ItemBody reader.old }
+    requires row { (next_row reader.old ≡ 46) ⊎ (next_row reader.old ≡ 47) }
     ensures { IfOk result (λ v. Reads (source_items.item_body e.now) reader.old reader.new (v ∷ [])) }
 {
-    let row = reader.row()?;
-    let at = reader.token()?;
+    let row = reader.enter();
+    let at = reader.pass();
     let list = variables(alloc, e, reader)?;
-    reader.token()?;
+    reader.pass();
     match row {
         row::REAL_VARIABLES => Ok(ItemBody::Variables(declared(at, Ty::Real, list))),
         row::INTEGER_VARIABLES => Ok(ItemBody::Variables(declared(at, Ty::Integer, list))),
-        _ => Err(AllocError),
+        _ => unreachable!(),
     }
 }
 
@@ -173,27 +193,20 @@ pub(crate) fn item_body(
     e: &Expanded,
     reader: &mut Reader<'_>,
 ) -> Result<ItemBody, AllocError>
-    requires { IsExpanded e.now }
+    requires expanded { IsExpanded e.now }
+    requires due { IsDue nonterminal.ItemBody reader.old }
     ensures { IfOk result (λ v. Reads (source_items.item_body e.now) reader.old reader.new (v ∷ [])) }
 {
-    match reader.next_row() {
-        Some(row::DIRECTION_ITEM) => direction_item(alloc, e, reader),
-        Some(row::NODES) => nodes(alloc, e, reader),
-        Some(row::BRANCH) => branch(alloc, e, reader),
-        Some(row::ALIAS) => alias(alloc, e, reader),
-        Some(row::ANALOG) => analog_item(alloc, e, reader),
-        _ => typed_item(alloc, e, reader),
-    }
-}
-
-/// Parameters or variables.
-fn typed_item(alloc: Global, e: &Expanded, reader: &mut Reader<'_>) -> Result<ItemBody, AllocError>
-    requires { IsExpanded e.now }
-    ensures { IfOk result (λ v. Reads (source_items.item_body e.now) reader.old reader.new (v ∷ [])) }
-{
-    match reader.next_row() {
-        Some(row::PARAMETERS) => parameter_item(alloc, e, reader),
-        Some(row::LOCAL_PARAMETERS) => parameter_item(alloc, e, reader),
-        _ => variable_item(alloc, e, reader),
+    match reader.peek() {
+        row::DIRECTION_ITEM => direction_item(alloc, e, reader),
+        row::NODES => nodes(alloc, e, reader),
+        row::BRANCH => branch(alloc, e, reader),
+        row::PARAMETERS => parameter_item(alloc, e, reader),
+        row::LOCAL_PARAMETERS => parameter_item(alloc, e, reader),
+        row::ALIAS => alias(alloc, e, reader),
+        row::REAL_VARIABLES => variable_item(alloc, e, reader),
+        row::INTEGER_VARIABLES => variable_item(alloc, e, reader),
+        row::ANALOG => analog_item(alloc, e, reader),
+        _ => unreachable!(),
     }
 }

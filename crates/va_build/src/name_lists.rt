@@ -1,9 +1,10 @@
 //! Reading lists of names.
 //!
-//! Each function takes the next tree of the parse tree, and its tokens with it. A row that the nonterminal does not have, which
-//! no parse tree holds, is answered as want of memory is.
+//! Each function takes the next tree of the parse tree, and its tokens with it.
 ghost use Rattle.std.specs.Prelude.{◌∷◌, IfOk};
 ghost use Rattle.va_base.specs.Expansion.{IsExpanded};
+ghost use Rattle.va_grammar.specs.declared.nonterminal.Nonterminal.TheVariants as nonterminal;
+ghost use Rattle.va_build.specs.Due.{IsDue};
 ghost use Rattle.va_build.specs.Reading.{Reads};
 ghost use Rattle.va_build.specs.SourceItems as source_items;
 ghost use Rattle.va_build.specs.SourceOf as top_level;
@@ -22,19 +23,20 @@ pub(crate) fn names_behind(
     reader: &mut Reader<'_>,
     first: NameAt,
 ) -> Result<Vec<NameAt>, AllocError>
-    requires { IsExpanded e.now }
+    requires expanded { IsExpanded e.now }
+    requires due { IsDue nonterminal.MoreNames reader.old }
     ensures { IfOk result (λ v. Reads (λ at t. first ∷ source_items.more_names e.now at t) reader.old reader.new v.items) }
 {
     let mut list = vec![in alloc; first]?;
     loop {
-        match reader.row()? {
+        match reader.enter() {
             row::MORE_NAMES => {
-                reader.token()?;
+                reader.pass();
                 let next = named(alloc, e, reader)?;
                 list.push(next)?;
             }
             row::NO_MORE_NAMES => return Ok(list),
-            _ => return Err(AllocError),
+            _ => unreachable!(),
         }
     }
 }
@@ -45,17 +47,18 @@ fn port_list(
     e: &Expanded,
     reader: &mut Reader<'_>,
 ) -> Result<Vec<NameAt>, AllocError>
-    requires { IsExpanded e.now }
+    requires expanded { IsExpanded e.now }
+    requires due { IsDue nonterminal.PortList reader.old }
     ensures { IfOk result (λ v. Reads (top_level.port_list e.now) reader.old reader.new v.items) }
 {
-    match reader.row()? {
+    match reader.enter() {
         row::PORT_LIST => {
             let first = named(alloc, e, reader)?;
             let list = names_behind(alloc, e, reader, first)?;
             Ok(list)
         }
         row::NO_PORT_LIST => Ok(Vec::new(alloc)),
-        _ => Err(AllocError),
+        _ => unreachable!(),
     }
 }
 
@@ -65,17 +68,18 @@ pub(crate) fn ports(
     e: &Expanded,
     reader: &mut Reader<'_>,
 ) -> Result<Vec<NameAt>, AllocError>
-    requires { IsExpanded e.now }
+    requires expanded { IsExpanded e.now }
+    requires due { IsDue nonterminal.Ports reader.old }
     ensures { IfOk result (λ v. Reads (top_level.ports e.now) reader.old reader.new v.items) }
 {
-    match reader.row()? {
+    match reader.enter() {
         row::PORTS => {
-            reader.token()?;
+            reader.pass();
             let list = port_list(alloc, e, reader)?;
-            reader.token()?;
+            reader.pass();
             Ok(list)
         }
         row::NO_PORTS => Ok(Vec::new(alloc)),
-        _ => Err(AllocError),
+        _ => unreachable!(),
     }
 }

@@ -1,5 +1,7 @@
 //! The rows of operands and of the operators between them.
-ghost use Rattle.std.specs.Prelude.{◌≡◌, IfSome};
+ghost use Rattle.std.specs.Prelude.{◌≡◌, true};
+ghost use Rattle.predict.specs.Table.{is_among};
+ghost use Rattle.va_build.specs.Due.{operand_rows, tail_rows};
 ghost use Rattle.va_build.specs.Reading.{IsOperandRow, IsTailRow};
 
 use va_grammar::row;
@@ -26,46 +28,39 @@ pub(crate) enum TailRow {
 }
 
 /// What a row of operands holds.
-pub(crate) fn operand_row(row: u16) -> Option<OperandRow>
-    ensures { IfSome result (IsOperandRow row) }
+pub(crate) fn operand_row(row: u16) -> OperandRow
+    requires { is_among operand_rows row ≡ true }
+    ensures { IsOperandRow row result }
 {
     match row {
-        row::OR | row::AND | row::EQUALITY | row::RELATION | row::SUM | row::PRODUCT | row::POWER =>
-            Some(OperandRow::Operands),
-        row::PLUS => Some(OperandRow::Sign(UnaryOp::Plus)),
-        row::MINUS => Some(OperandRow::Sign(UnaryOp::Minus)),
-        row::NOT => Some(OperandRow::Sign(UnaryOp::Not)),
-        row::UNSIGNED => Some(OperandRow::Unsigned),
-        _ => None,
+        row::PLUS => OperandRow::Sign(UnaryOp::Plus),
+        row::MINUS => OperandRow::Sign(UnaryOp::Minus),
+        row::NOT => OperandRow::Sign(UnaryOp::Not),
+        row::UNSIGNED => OperandRow::Unsigned,
+        _ => OperandRow::Operands,
     }
 }
 
 /// What a row behind a first operand holds.
-pub(crate) fn tail_row(row: u16) -> Option<TailRow>
-    ensures { IfSome result (IsTailRow row) }
+pub(crate) fn tail_row(row: u16) -> TailRow
+    requires { is_among tail_rows row ≡ true }
+    ensures { IsTailRow row result }
 {
     match row {
-        row::OR_END
-        | row::AND_END
-        | row::EQUALITY_END
-        | row::RELATION_END
-        | row::SUM_END
-        | row::PRODUCT_END
-        | row::POWER_END => Some(TailRow::End),
-        row::OR_MORE => Some(TailRow::Operator(BinaryOp::Or)),
-        row::AND_MORE => Some(TailRow::Operator(BinaryOp::And)),
-        row::EQUAL_MORE => Some(TailRow::Operator(BinaryOp::Equal)),
-        row::NOT_EQUAL_MORE => Some(TailRow::Operator(BinaryOp::NotEqual)),
-        row::LESS_MORE => Some(TailRow::Operator(BinaryOp::Less)),
-        row::AT_MOST_MORE => Some(TailRow::Operator(BinaryOp::AtMost)),
-        row::GREATER_MORE => Some(TailRow::Operator(BinaryOp::Greater)),
-        row::AT_LEAST_MORE => Some(TailRow::Operator(BinaryOp::AtLeast)),
-        row::ADD_MORE => Some(TailRow::Operator(BinaryOp::Add)),
-        row::SUBTRACT_MORE => Some(TailRow::Operator(BinaryOp::Subtract)),
-        row::MULTIPLY_MORE => Some(TailRow::Operator(BinaryOp::Multiply)),
-        row::DIVIDE_MORE => Some(TailRow::Operator(BinaryOp::Divide)),
-        row::REMAINDER_MORE => Some(TailRow::Operator(BinaryOp::Remainder)),
-        row::POWER_MORE => Some(TailRow::Operator(BinaryOp::Power)),
-        _ => None,
+        row::OR_MORE => TailRow::Operator(BinaryOp::Or),
+        row::AND_MORE => TailRow::Operator(BinaryOp::And),
+        row::EQUAL_MORE => TailRow::Operator(BinaryOp::Equal),
+        row::NOT_EQUAL_MORE => TailRow::Operator(BinaryOp::NotEqual),
+        row::LESS_MORE => TailRow::Operator(BinaryOp::Less),
+        row::AT_MOST_MORE => TailRow::Operator(BinaryOp::AtMost),
+        row::GREATER_MORE => TailRow::Operator(BinaryOp::Greater),
+        row::AT_LEAST_MORE => TailRow::Operator(BinaryOp::AtLeast),
+        row::ADD_MORE => TailRow::Operator(BinaryOp::Add),
+        row::SUBTRACT_MORE => TailRow::Operator(BinaryOp::Subtract),
+        row::MULTIPLY_MORE => TailRow::Operator(BinaryOp::Multiply),
+        row::DIVIDE_MORE => TailRow::Operator(BinaryOp::Divide),
+        row::REMAINDER_MORE => TailRow::Operator(BinaryOp::Remainder),
+        row::POWER_MORE => TailRow::Operator(BinaryOp::Power),
+        _ => TailRow::End,
     }
 }

@@ -1,9 +1,10 @@
 //! Reading parameters (Parameters).
 //!
-//! Each function takes the next tree of the parse tree, and its tokens with it. A row that the nonterminal does not have, which
-//! no parse tree holds, is answered as want of memory is.
-ghost use Rattle.std.specs.Prelude.{[], ◌∷◌, IfOk};
+//! Each function takes the next tree of the parse tree, and its tokens with it.
+ghost use Rattle.std.specs.Prelude.{◌≡◌, ◌⊎◌, [], ◌∷◌, IfOk};
 ghost use Rattle.va_base.specs.Expansion.{IsExpanded};
+ghost use Rattle.va_grammar.specs.declared.nonterminal.Nonterminal.TheVariants as nonterminal;
+ghost use Rattle.va_build.specs.Due.{IsDue, next_row};
 ghost use Rattle.va_build.specs.Reading.{Reads};
 ghost use Rattle.va_build.specs.SourceItems as source_items;
 
@@ -17,31 +18,33 @@ use va_grammar::row;
 use va_tree::{ItemBody, Parameter, Ty};
 
 /// `real` or `integer`, if it is said.
-pub(crate) fn optional_type(reader: &mut Reader<'_>) -> Result<Option<Ty>, AllocError>
-    ensures { IfOk result (λ v. Reads (λ at t. source_items.optional_type t) reader.old reader.new v) }
+pub(crate) fn optional_type(reader: &mut Reader<'_>) -> Option<Ty>
+    requires due { IsDue nonterminal.OptionalType reader.old }
+    ensures { Reads (λ at t. source_items.optional_type t) reader.old reader.new result }
 {
-    match reader.row()? {
+    match reader.enter() {
         row::REAL_TYPE => {
-            reader.token()?;
-            Ok(Some(Ty::Real))
+            reader.pass();
+            Some(Ty::Real)
         }
         row::INTEGER_TYPE => {
-            reader.token()?;
-            Ok(Some(Ty::Integer))
+            reader.pass();
+            Some(Ty::Integer)
         }
-        row::NO_TYPE => Ok(None),
-        _ => Err(AllocError),
+        row::NO_TYPE => None,
+        _ => unreachable!(),
     }
 }
 
 /// A parameter.
 fn parameter(alloc: Global, e: &Expanded, reader: &mut Reader<'_>) -> Result<Parameter, AllocError>
-    requires { IsExpanded e.now }
+    requires expanded { IsExpanded e.now }
+    requires due { IsDue nonterminal.ParameterAssignment reader.old }
     ensures { IfOk result (λ v. Reads (source_items.parameter e.now) reader.old reader.new (v ∷ [])) }
 {
-    reader.take(row::PARAMETER)?;
+    reader.enter();
     let name = named(alloc, e, reader)?;
-    reader.token()?;
+    reader.pass();
     let default = expression(alloc, e, reader)?;
     let list = ranges(alloc, e, reader)?;
     Ok(Parameter {
@@ -58,19 +61,20 @@ fn parameters_behind(
     reader: &mut Reader<'_>,
     first: Parameter,
 ) -> Result<Vec<Parameter>, AllocError>
-    requires { IsExpanded e.now }
+    requires expanded { IsExpanded e.now }
+    requires due { IsDue nonterminal.MoreParameterAssignments reader.old }
     ensures { IfOk result (λ v. Reads (λ at t. first ∷ source_items.more_parameters e.now at t) reader.old reader.new v.items) }
 {
     let mut list = vec![in alloc; first]?;
     loop {
-        match reader.row()? {
+        match reader.enter() {
             row::MORE_PARAMETERS => {
-                reader.token()?;
+                reader.pass();
                 let next = parameter(alloc, e, reader)?;
                 list.push(next)?;
             }
             row::NO_MORE_PARAMETERS => return Ok(list),
-            _ => return Err(AllocError),
+            _ => unreachable!(),
         }
     }
 }
@@ -81,10 +85,11 @@ fn parameters(
     e: &Expanded,
     reader: &mut Reader<'_>,
 ) -> Result<Vec<Parameter>, AllocError>
-    requires { IsExpanded e.now }
+    requires expanded { IsExpanded e.now }
+    requires due { IsDue nonterminal.ParameterAssignments reader.old }
     ensures { IfOk result (λ v. Reads (source_items.parameters e.now) reader.old reader.new v.items) }
 {
-    reader.take(row::PARAMETER_LIST)?;
+    reader.enter();
     let first = parameter(alloc, e, reader)?;
     let list = parameters_behind(alloc, e, reader, first)?;
     Ok(list)
@@ -96,14 +101,16 @@ pub(crate) fn parameter_item(
     e: &Expanded,
     reader: &mut Reader<'_>,
 ) -> Result<ItemBody, AllocError>
-    requires { IsExpanded e.now }
+    requires expanded { IsExpanded e.now }
+    requires due { IsDue nonterminal.ItemBody reader.old }
+    requires row { (next_row reader.old ≡ 43) ⊎ (next_row reader.old ≡ 44) }
     ensures { IfOk result (λ v. Reads (source_items.item_body e.now) reader.old reader.new (v ∷ [])) }
 {
-    let row = reader.row()?;
-    let at = reader.token()?;
-    let ty = optional_type(reader)?;
+    let row = reader.enter();
+    let at = reader.pass();
+    let ty = optional_type(reader);
     let list = parameters(alloc, e, reader)?;
-    reader.token()?;
+    reader.pass();
     let parameters = Items::new(list);
     match row {
         row::PARAMETERS => Ok(ItemBody::Parameters {
@@ -118,6 +125,6 @@ pub(crate) fn parameter_item(
             ty,
             parameters,
         }),
-        _ => Err(AllocError),
+        _ => unreachable!(),
     }
 }

@@ -1,10 +1,11 @@
 //! Reading expressions.
 //!
-//! Each function takes the next tree of the parse tree, and its tokens with it. A row that the nonterminal does not have, which
-//! no parse tree holds, is answered as want of memory is.
+//! Each function takes the next tree of the parse tree, and its tokens with it.
 ghost use Rattle.std.specs.Prelude.{◌≡◌, ◌∷◌, IfOk};
 ghost use Rattle.va_build.specs.TokensAt as tokens_at;
 ghost use Rattle.va_base.specs.Expansion.{IsExpanded};
+ghost use Rattle.va_grammar.specs.declared.nonterminal.Nonterminal.TheVariants as nonterminal;
+ghost use Rattle.va_build.specs.Due.{IsDue, IsOperandDue, IsTailDue};
 ghost use Rattle.va_build.specs.Reading.{Reads};
 ghost use Rattle.va_build.specs.SourceExpressions as source_expressions;
 
@@ -24,10 +25,11 @@ pub(crate) fn expression(
     e: &Expanded,
     reader: &mut Reader<'_>,
 ) -> Result<Expr, AllocError>
-    requires { IsExpanded e.now }
+    requires expanded { IsExpanded e.now }
+    requires due { IsDue nonterminal.Expression reader.old }
     ensures { IfOk result (λ v. Reads (source_expressions.expression e.now) reader.old reader.new v) }
 {
-    reader.take(row::EXPRESSION)?;
+    reader.enter();
     let first = reader.at();
     let test = operand(alloc, e, reader)?;
     let value = choice(alloc, e, reader, first, test)?;
@@ -43,52 +45,53 @@ fn choice(
     first: u32,
     test: Expr,
 ) -> Result<Expr, AllocError>
-    requires { IsExpanded e.now }
+    requires expanded { IsExpanded e.now }
+    requires due { IsDue nonterminal.ConditionalTail reader.old }
     ensures { IfOk result (λ v. Reads (source_expressions.choice e.now first test) reader.old reader.new v) }
 {
-    match reader.row()? {
+    match reader.enter() {
         row::CHOICE => {
-            reader.token()?;
+            reader.pass();
             let yes = expression(alloc, e, reader)?;
-            reader.token()?;
+            reader.pass();
             let no = expression(alloc, e, reader)?;
             let value = choose(alloc, first, test, yes, no)?;
             Ok(value)
         }
         row::NO_CHOICE => Ok(test),
-        _ => Err(AllocError),
+        _ => unreachable!(),
     }
 }
 
 /// Operands of one precedence and the operators between them, a sign and its operand, or an operand without signs.
 #[cycle(expression)]
 fn operand(alloc: Global, e: &Expanded, reader: &mut Reader<'_>) -> Result<Expr, AllocError>
-    requires { IsExpanded e.now }
+    requires expanded { IsExpanded e.now }
+    requires due { IsOperandDue reader.old }
     ensures { IfOk result (λ v. Reads (source_expressions.operand e.now) reader.old reader.new v) }
 {
-    let row = reader.row()?;
+    let row = reader.enter();
     let at = reader.at();
     match operand_row(row) {
-        Some(OperandRow::Operands) => {
+        OperandRow::Operands => {
             let first = operand(alloc, e, reader)?;
             // The common case, in which `chain` would but hand the operand on, which costs a copy at each precedence.
-            if reader.take_end()? {
+            if reader.take_end() {
                 return Ok(first);
             }
             let value = chain(alloc, e, reader, at, first)?;
             Ok(value)
         }
-        Some(OperandRow::Sign(op)) => {
-            reader.token()?;
+        OperandRow::Sign(op) => {
+            reader.pass();
             let signed = operand(alloc, e, reader)?;
             let value = unary(alloc, at, op, signed)?;
             Ok(value)
         }
-        Some(OperandRow::Unsigned) => {
+        OperandRow::Unsigned => {
             let value = primary(alloc, e, reader)?;
             Ok(value)
         }
-        None => Err(AllocError),
     }
 }
 
@@ -102,20 +105,20 @@ fn chain(
     first: u32,
     left: Expr,
 ) -> Result<Expr, AllocError>
-    requires { IsExpanded e.now }
+    requires expanded { IsExpanded e.now }
+    requires due { IsTailDue reader.old }
     ensures { IfOk result (λ v. Reads (source_expressions.chain e.now first left) reader.old reader.new v) }
 {
     let mut value = left;
     loop {
-        let row = reader.row()?;
+        let row = reader.enter();
         match tail_row(row) {
-            Some(TailRow::Operator(op)) => {
-                reader.token()?;
+            TailRow::Operator(op) => {
+                reader.pass();
                 let right = operand(alloc, e, reader)?;
                 value = binary(alloc, first, value, op, right)?;
             }
-            Some(TailRow::End) => return Ok(value),
-            None => return Err(AllocError),
+            TailRow::End => return Ok(value),
         }
     }
 }
@@ -123,17 +126,18 @@ fn chain(
 /// A numeral, `inf`, an expression in parentheses, or a name and the arguments behind it.
 #[cycle(expression)]
 fn primary(alloc: Global, e: &Expanded, reader: &mut Reader<'_>) -> Result<Expr, AllocError>
-    requires { IsExpanded e.now }
+    requires expanded { IsExpanded e.now }
+    requires due { IsDue nonterminal.Primary reader.old }
     ensures { IfOk result (λ v. Reads (source_expressions.primary e.now) reader.old reader.new v) }
 {
-    let row = reader.row()?;
-    let at = reader.token()?;
+    let row = reader.enter();
+    let at = reader.pass();
     match row {
         row::NUMBER => Ok(literal(e, at)),
         row::INF => Ok(Expr::Inf { at }),
         row::GROUP => {
             let inner = expression(alloc, e, reader)?;
-            reader.token()?;
+            reader.pass();
             let value = group(alloc, at, inner)?;
             Ok(value)
         }
@@ -145,7 +149,7 @@ fn primary(alloc: Global, e: &Expanded, reader: &mut Reader<'_>) -> Result<Expr,
             let value = called(alloc, e, reader, at, Callee::System)?;
             Ok(value)
         }
-        _ => Err(AllocError),
+        _ => unreachable!(),
     }
 }
 
@@ -158,14 +162,15 @@ fn called(
     name: u32,
     who: Callee,
 ) -> Result<Expr, AllocError>
-    requires { IsExpanded e.now }
+    requires expanded { IsExpanded e.now }
+    requires due { IsDue nonterminal.CallArguments reader.old }
     ensures { IfOk result (λ v. Reads (source_expressions.called e.now name who) reader.old reader.new v) }
 {
-    match reader.row()? {
+    match reader.enter() {
         row::CALL => {
-            reader.token()?;
+            reader.pass();
             let args = arguments(alloc, e, reader)?;
-            reader.token()?;
+            reader.pass();
             let value = call(alloc, e, name, who, args)?;
             Ok(value)
         }
@@ -173,7 +178,7 @@ fn called(
             let value = bare(alloc, e, name, who)?;
             Ok(value)
         }
-        _ => Err(AllocError),
+        _ => unreachable!(),
     }
 }
 
@@ -184,17 +189,18 @@ pub(crate) fn arguments(
     e: &Expanded,
     reader: &mut Reader<'_>,
 ) -> Result<Vec<Arg>, AllocError>
-    requires { IsExpanded e.now }
+    requires expanded { IsExpanded e.now }
+    requires due { IsDue nonterminal.Arguments reader.old }
     ensures { IfOk result (λ v. Reads (source_expressions.arguments e.now) reader.old reader.new v.items) }
 {
-    match reader.row()? {
+    match reader.enter() {
         row::ARGUMENTS => {
             let first = argument(alloc, e, reader)?;
             let args = more_arguments(alloc, e, reader, first)?;
             Ok(args)
         }
         row::NO_ARGUMENTS => Ok(Vec::new(alloc)),
-        _ => Err(AllocError),
+        _ => unreachable!(),
     }
 }
 
@@ -206,19 +212,20 @@ fn more_arguments(
     reader: &mut Reader<'_>,
     first: Arg,
 ) -> Result<Vec<Arg>, AllocError>
-    requires { IsExpanded e.now }
+    requires expanded { IsExpanded e.now }
+    requires due { IsDue nonterminal.MoreArguments reader.old }
     ensures { IfOk result (λ v. Reads (λ at t. first ∷ source_expressions.more_arguments e.now at t) reader.old reader.new v.items) }
 {
     let mut args = vec![in alloc; first]?;
     loop {
-        match reader.row()? {
+        match reader.enter() {
             row::MORE_ARGUMENTS => {
-                reader.token()?;
+                reader.pass();
                 let next = argument(alloc, e, reader)?;
                 args.push(next)?;
             }
             row::NO_MORE_ARGUMENTS => return Ok(args),
-            _ => return Err(AllocError),
+            _ => unreachable!(),
         }
     }
 }
@@ -230,10 +237,11 @@ pub(crate) fn argument(
     e: &Expanded,
     reader: &mut Reader<'_>,
 ) -> Result<Arg, AllocError>
-    requires { IsExpanded e.now }
+    requires expanded { IsExpanded e.now }
+    requires due { IsDue nonterminal.Argument reader.old }
     ensures { IfOk result (λ v. Reads (source_expressions.argument e.now) reader.old reader.new v) }
 {
-    match reader.row()? {
+    match reader.enter() {
         row::TEXT_ARGUMENT => {
             let text = named(alloc, e, reader)?;
             Ok(Arg::Text(text))
@@ -242,7 +250,7 @@ pub(crate) fn argument(
             let value = expression(alloc, e, reader)?;
             Ok(Arg::Expr(value))
         }
-        _ => Err(AllocError),
+        _ => unreachable!(),
     }
 }
 

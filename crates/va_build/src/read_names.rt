@@ -1,5 +1,5 @@
 //! Reading names, strings and numerals of a text, by the indices of their tokens.
-ghost use Rattle.std.specs.Prelude.{◌≡◌, ◌+◌, IfOk, OnOk};
+ghost use Rattle.std.specs.Prelude.{◌≡◌, ◌+◌, ◌<◌, IfOk, OnOk};
 ghost use Rattle.std.specs.List.{list_all};
 ghost use Rattle.va_base.specs.Expansion.{IsExpanded};
 ghost use Rattle.va_base.specs.Spelling.{is_digit_byte};
@@ -66,12 +66,13 @@ pub(crate) fn named(
     e: &Expanded,
     reader: &mut Reader<'_>,
 ) -> Result<NameAt, AllocError>
-    requires { IsExpanded e.now }
+    requires expanded { IsExpanded e.now }
+    requires due { reader.old.at < 2000000 }
     ensures name { IfOk result (λ n. n ≡ tokens_at.named e.now reader.old.at) }
     ensures passed { OnOk result (reader.new.at ≡ reader.old.at + 1) }
     ensures nodes { OnOk result (reader.new.nodes ≡ reader.old.nodes) }
 {
-    let at = reader.token()?;
+    let at = reader.pass();
     let name = name_at(alloc, e, at)?;
     Ok(NameAt { at, name })
 }

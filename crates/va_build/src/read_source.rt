@@ -1,11 +1,12 @@
 //! Reading a whole text: its natures, disciplines and modules.
 //!
-//! Each function takes the next tree of the parse tree, and its tokens with it. A row that the nonterminal does not have, which
-//! no parse tree holds, is answered as want of memory is.
+//! Each function takes the next tree of the parse tree, and its tokens with it.
 ghost use Rattle.std.specs.Prelude.{◌≡◌, ◌++◌, IfOk, OnOk};
 ghost use Rattle.predict.specs.Sentence.{IsParsed};
 ghost use Rattle.va_base.specs.Expansion.{IsExpanded};
 ghost use Rattle.va_grammar.specs.Kinds.{kinds_of};
+ghost use Rattle.va_grammar.specs.declared.nonterminal.Nonterminal.TheVariants as nonterminal;
+ghost use Rattle.va_build.specs.Due.{IsDue};
 ghost use Rattle.va_build.specs.Reading.{Reads};
 ghost use Rattle.va_grammar.specs.Sets.{va_rules};
 ghost use Rattle.va_build.specs.SourceOf.{IsSourceOf};
@@ -38,12 +39,13 @@ fn declared_at_top(
     attributes: Vec<AttributeGroup>,
     found: &mut Found,
 ) -> Result<(), AllocError>
-    requires { IsExpanded e.now }
+    requires expanded { IsExpanded e.now }
+    requires due { IsDue nonterminal.TopItemBody reader.old }
     ensures natures { OnOk result (Reads (λ at t. found.old.natures.items ++ top_level.body_of_sort top_level.nature e.now attributes.items at t) reader.old reader.new found.new.natures.items) }
     ensures disciplines { OnOk result (Reads (λ at t. found.old.disciplines.items ++ top_level.body_of_sort top_level.discipline_of e.now attributes.items at t) reader.old reader.new found.new.disciplines.items) }
     ensures modules { OnOk result (Reads (λ at t. found.old.modules.items ++ top_level.body_of_sort top_level.module_of e.now attributes.items at t) reader.old reader.new found.new.modules.items) }
 {
-    match reader.row()? {
+    match reader.enter() {
         row::TOP_NATURE => {
             let next = nature(alloc, e, reader, attributes)?;
             found.natures.push(next)?;
@@ -59,7 +61,7 @@ fn declared_at_top(
             found.modules.push(next)?;
             Ok(())
         }
-        _ => Err(AllocError),
+        _ => unreachable!(),
     }
 }
 
@@ -70,12 +72,13 @@ fn top_item(
     reader: &mut Reader<'_>,
     found: &mut Found,
 ) -> Result<(), AllocError>
-    requires { IsExpanded e.now }
+    requires expanded { IsExpanded e.now }
+    requires due { IsDue nonterminal.TopItem reader.old }
     ensures natures { OnOk result (Reads (λ at t. found.old.natures.items ++ top_level.of_sort top_level.nature e.now at t) reader.old reader.new found.new.natures.items) }
     ensures disciplines { OnOk result (Reads (λ at t. found.old.disciplines.items ++ top_level.of_sort top_level.discipline_of e.now at t) reader.old reader.new found.new.disciplines.items) }
     ensures modules { OnOk result (Reads (λ at t. found.old.modules.items ++ top_level.of_sort top_level.module_of e.now at t) reader.old reader.new found.new.modules.items) }
 {
-    reader.take(row::TOP_ITEM)?;
+    reader.enter();
     let attributes = attribute_groups(alloc, e, reader)?;
     declared_at_top(alloc, e, reader, attributes, found)?;
     Ok(())
@@ -83,7 +86,8 @@ fn top_item(
 
 /// All natures, disciplines and modules of a text.
 fn all_found(alloc: Global, e: &Expanded, reader: &mut Reader<'_>) -> Result<Found, AllocError>
-    requires { IsExpanded e.now }
+    requires expanded { IsExpanded e.now }
+    requires due { IsDue nonterminal.Source reader.old }
     ensures natures { IfOk result (λ v. Reads (top_level.all_of_sort top_level.nature e.now) reader.old reader.new v.natures.items) }
     ensures disciplines { IfOk result (λ v. Reads (top_level.all_of_sort top_level.discipline_of e.now) reader.old reader.new v.disciplines.items) }
     ensures modules { IfOk result (λ v. Reads (top_level.all_of_sort top_level.module_of e.now) reader.old reader.new v.modules.items) }
@@ -94,10 +98,10 @@ fn all_found(alloc: Global, e: &Expanded, reader: &mut Reader<'_>) -> Result<Fou
         modules: Vec::new(alloc),
     };
     loop {
-        match reader.row()? {
+        match reader.enter() {
             row::TOP_ITEMS => top_item(alloc, e, reader, &mut found)?,
             row::NO_TOP_ITEMS => return Ok(found),
-            _ => return Err(AllocError),
+            _ => unreachable!(),
         }
     }
 }

@@ -1,10 +1,12 @@
 //! Reading statements.
 //!
 //! Each function takes the next tree of the parse tree, and its tokens with it. A statement that is read goes to the end of a
-//! list of those that are done; where it holds others, they are taken from there. A row that the nonterminal does not have,
-//! which no parse tree holds, is answered as want of memory is.
-ghost use Rattle.std.specs.Prelude.{◌≡◌, [], ◌∷◌, ◌++◌, IfOk, OnOk, None, Some};
+//! list of those that are done; where it holds others, they are taken from there.
+ghost use Rattle.std.specs.Prelude.{◌≡◌, true, [], ◌∷◌, ◌++◌, IfOk, OnOk, None, Some};
+ghost use Rattle.predict.specs.Table.{is_among};
 ghost use Rattle.va_base.specs.Expansion.{IsExpanded};
+ghost use Rattle.va_grammar.specs.declared.nonterminal.Nonterminal.TheVariants as nonterminal;
+ghost use Rattle.va_build.specs.Due.{IsDue, next_row, simple_rows, turn_rows};
 ghost use Rattle.va_build.specs.Reading.{Reads, first_tree, trees};
 ghost use Rattle.std.specs.Option.{is_some};
 ghost use Rattle.va_build.specs.StatementHeads.{else_statements};
@@ -15,7 +17,7 @@ use crate::done::{
 };
 use crate::read_expressions::expression;
 use crate::reader::Reader;
-use crate::statement_heads::{begins_turn, case_head, if_head, read_turn};
+use crate::statement_heads::{case_head, if_head, read_turn};
 use crate::statement_parts::{colon, declarations, label, simple, values_behind};
 use std::alloc::{AllocError, Global};
 use va_base::Expanded;
@@ -30,31 +32,34 @@ pub(crate) fn statement(
     reader: &mut Reader<'_>,
     done: &mut Vec<Stmt>,
 ) -> Result<(), AllocError>
-    requires { IsExpanded e.now }
+    requires expanded { IsExpanded e.now }
+    requires due { IsDue nonterminal.Statement reader.old }
     ensures { OnOk result (Reads (λ at t. done.old.items ++ source_statements.statement e.now at t ∷ []) reader.old reader.new done.new.items) }
 {
-    match reader.next_row() {
-        Some(row::BLOCK) => block(alloc, e, reader, done),
-        Some(row::IF) => if_statement(alloc, e, reader, done),
-        Some(row::CASE) => case_statement(alloc, e, reader, done),
-        _ => other(alloc, e, reader, done),
+    match reader.peek() {
+        row::BLOCK => block(alloc, e, reader, done),
+        row::IF => if_statement(alloc, e, reader, done),
+        row::CASE => case_statement(alloc, e, reader, done),
+        row::NAMED => simple_done(alloc, e, reader, done),
+        row::TASK => simple_done(alloc, e, reader, done),
+        row::NULL => simple_done(alloc, e, reader, done),
+        _ => loop_or_wait(alloc, e, reader, done),
     }
 }
 
-/// A statement with one statement in it, or none.
+/// A loop or a wait, with the statement in it.
 #[cycle(statement)]
-fn other(
+fn loop_or_wait(
     alloc: Global,
     e: &Expanded,
     reader: &mut Reader<'_>,
     done: &mut Vec<Stmt>,
 ) -> Result<(), AllocError>
-    requires { IsExpanded e.now }
+    requires expanded { IsExpanded e.now }
+    requires due { IsDue nonterminal.Statement reader.old }
+    requires row { is_among turn_rows (next_row reader.old) ≡ true }
     ensures { OnOk result (Reads (λ at t. done.old.items ++ source_statements.statement e.now at t ∷ []) reader.old reader.new done.new.items) }
 {
-    if !begins_turn(reader) {
-        return simple_done(alloc, e, reader, done);
-    }
     let turn = read_turn(alloc, e, reader)?;
     statement(alloc, e, reader, done)?;
     close_turn(alloc, done, turn)?;
@@ -68,7 +73,9 @@ fn simple_done(
     reader: &mut Reader<'_>,
     done: &mut Vec<Stmt>,
 ) -> Result<(), AllocError>
-    requires { IsExpanded e.now }
+    requires expanded { IsExpanded e.now }
+    requires due { IsDue nonterminal.Statement reader.old }
+    requires row { is_among simple_rows (next_row reader.old) ≡ true }
     ensures { OnOk result (Reads (λ at t. done.old.items ++ source_statements.statement e.now at t ∷ []) reader.old reader.new done.new.items) }
 {
     let value = simple(alloc, e, reader)?;
@@ -84,16 +91,18 @@ fn block(
     reader: &mut Reader<'_>,
     done: &mut Vec<Stmt>,
 ) -> Result<(), AllocError>
-    requires { IsExpanded e.now }
+    requires expanded { IsExpanded e.now }
+    requires due { IsDue nonterminal.Statement reader.old }
+    requires row { next_row reader.old ≡ 89 }
     ensures { OnOk result (Reads (λ at t. done.old.items ++ source_statements.statement e.now at t ∷ []) reader.old reader.new done.new.items) }
 {
-    reader.take(row::BLOCK)?;
-    let at = reader.token()?;
+    reader.enter();
+    let at = reader.pass();
     let label = label(alloc, e, reader)?;
     let list = declarations(alloc, e, reader)?;
     let start = done.len();
     statements(alloc, e, reader, done)?;
-    reader.token()?;
+    reader.pass();
     close_block(alloc, done, start, at, label, list)?;
     Ok(())
 }
@@ -106,14 +115,15 @@ fn statements(
     reader: &mut Reader<'_>,
     done: &mut Vec<Stmt>,
 ) -> Result<(), AllocError>
-    requires { IsExpanded e.now }
+    requires expanded { IsExpanded e.now }
+    requires due { IsDue nonterminal.Statements reader.old }
     ensures { OnOk result (Reads (λ at t. done.old.items ++ source_statements.statements e.now at t) reader.old reader.new done.new.items) }
 {
     loop {
-        match reader.row()? {
+        match reader.enter() {
             row::STATEMENTS => statement(alloc, e, reader, done)?,
             row::NO_STATEMENTS => return Ok(()),
-            _ => return Err(AllocError),
+            _ => unreachable!(),
         }
     }
 }
@@ -126,7 +136,9 @@ fn if_statement(
     reader: &mut Reader<'_>,
     done: &mut Vec<Stmt>,
 ) -> Result<(), AllocError>
-    requires { IsExpanded e.now }
+    requires expanded { IsExpanded e.now }
+    requires due { IsDue nonterminal.Statement reader.old }
+    requires row { next_row reader.old ≡ 90 }
     ensures { OnOk result (Reads (λ at t. done.old.items ++ source_statements.statement e.now at t ∷ []) reader.old reader.new done.new.items) }
 {
     let test = if_head(alloc, e, reader)?;
@@ -148,18 +160,19 @@ fn else_branch(
     reader: &mut Reader<'_>,
     done: &mut Vec<Stmt>,
 ) -> Result<bool, AllocError>
-    requires { IsExpanded e.now }
+    requires expanded { IsExpanded e.now }
+    requires due { IsDue nonterminal.ElseBranch reader.old }
     ensures read { OnOk result (Reads (λ at t. done.old.items ++ else_statements e.now at t) reader.old reader.new done.new.items) }
     ensures found { IfOk result (λ b. b ≡ is_some (source_statements.else_branch e.now reader.old.at (first_tree (trees reader.old)))) }
 {
-    match reader.row()? {
+    match reader.enter() {
         row::ELSE => {
-            reader.token()?;
+            reader.pass();
             statement(alloc, e, reader, done)?;
             Ok(true)
         }
         row::NO_ELSE => Ok(false),
-        _ => Err(AllocError),
+        _ => unreachable!(),
     }
 }
 
@@ -171,14 +184,16 @@ fn case_statement(
     reader: &mut Reader<'_>,
     done: &mut Vec<Stmt>,
 ) -> Result<(), AllocError>
-    requires { IsExpanded e.now }
+    requires expanded { IsExpanded e.now }
+    requires due { IsDue nonterminal.Statement reader.old }
+    requires row { next_row reader.old ≡ 91 }
     ensures { OnOk result (Reads (λ at t. done.old.items ++ source_statements.statement e.now at t ∷ []) reader.old reader.new done.new.items) }
 {
     let selector = case_head(alloc, e, reader)?;
     let mut items = Vec::new(alloc);
     let mut defaults = Vec::new(alloc);
     case_parts(alloc, e, reader, done, &mut items, &mut defaults)?;
-    reader.token()?;
+    reader.pass();
     close_case(done, selector, items, defaults)?;
     Ok(())
 }
@@ -193,19 +208,20 @@ fn case_parts(
     items: &mut Vec<CaseItem>,
     defaults: &mut Vec<CaseDefault>,
 ) -> Result<(), AllocError>
-    requires { IsExpanded e.now }
+    requires expanded { IsExpanded e.now }
+    requires due { IsDue nonterminal.CaseItems reader.old }
     ensures items { OnOk result (Reads (λ at t. items.old.items ++ source_statements.case_items e.now at t) reader.old reader.new items.new.items) }
     ensures defaults { OnOk result (Reads (λ at t. defaults.old.items ++ source_statements.case_defaults e.now at t) reader.old reader.new defaults.new.items) }
     ensures done { OnOk result (done.new.items ≡ done.old.items) }
 {
     loop {
-        match reader.row()? {
-            row::CASE_ITEMS => match reader.next_row() {
-                Some(row::DEFAULT) => case_default(alloc, e, reader, done, defaults)?,
+        match reader.enter() {
+            row::CASE_ITEMS => match reader.peek() {
+                row::DEFAULT => case_default(alloc, e, reader, done, defaults)?,
                 _ => case_item(alloc, e, reader, done, items)?,
             },
             row::NO_CASE_ITEMS => return Ok(()),
-            _ => return Err(AllocError),
+            _ => unreachable!(),
         }
     }
 }
@@ -219,16 +235,18 @@ fn case_item(
     done: &mut Vec<Stmt>,
     items: &mut Vec<CaseItem>,
 ) -> Result<(), AllocError>
-    requires { IsExpanded e.now }
+    requires expanded { IsExpanded e.now }
+    requires due { IsDue nonterminal.CaseItem reader.old }
+    requires row { next_row reader.old ≡ 112 }
     ensures item { OnOk result (Reads (λ at t. items.old.items ++ source_statements.case_item e.now at t) reader.old reader.new items.new.items) }
     ensures only { OnOk result (source_statements.case_default e.now reader.old.at (first_tree (trees reader.old)) ≡ []) }
     ensures done { OnOk result (done.new.items ≡ done.old.items) }
 {
-    reader.take(row::CASE_ITEM)?;
+    reader.enter();
     let at = reader.at();
     let first = expression(alloc, e, reader)?;
     let values = values_behind(alloc, e, reader, first)?;
-    reader.token()?;
+    reader.pass();
     statement(alloc, e, reader, done)?;
     close_item(done, items, at, values)?;
     Ok(())
@@ -243,14 +261,16 @@ fn case_default(
     done: &mut Vec<Stmt>,
     defaults: &mut Vec<CaseDefault>,
 ) -> Result<(), AllocError>
-    requires { IsExpanded e.now }
+    requires expanded { IsExpanded e.now }
+    requires due { IsDue nonterminal.CaseItem reader.old }
+    requires row { next_row reader.old ≡ 111 }
     ensures item { OnOk result (Reads (λ at t. defaults.old.items ++ source_statements.case_default e.now at t) reader.old reader.new defaults.new.items) }
     ensures only { OnOk result (source_statements.case_item e.now reader.old.at (first_tree (trees reader.old)) ≡ []) }
     ensures done { OnOk result (done.new.items ≡ done.old.items) }
 {
-    reader.take(row::DEFAULT)?;
-    let at = reader.token()?;
-    colon(reader)?;
+    reader.enter();
+    let at = reader.pass();
+    colon(reader);
     statement(alloc, e, reader, done)?;
     close_default(done, defaults, at)?;
     Ok(())
@@ -262,11 +282,12 @@ pub(crate) fn one_statement(
     e: &Expanded,
     reader: &mut Reader<'_>,
 ) -> Result<Stmt, AllocError>
-    requires { IsExpanded e.now }
+    requires expanded { IsExpanded e.now }
+    requires due { IsDue nonterminal.Statement reader.old }
     ensures { IfOk result (λ v. Reads (source_statements.statement e.now) reader.old reader.new v) }
 {
     let mut done = Vec::new(alloc);
     statement(alloc, e, reader, &mut done)?;
-    let value = last(&mut done)?;
+    let value = last(&mut done);
     Ok(value)
 }

@@ -1,10 +1,10 @@
 //! Reading a parse tree node by node, in step with the tokens that it spells.
-ghost use Rattle.std.specs.Prelude.{◌≡◌, IfOk, OnOk};
+ghost use Rattle.std.specs.Prelude.{◌≡◌, ◌<◌, length};
+ghost use Rattle.va_build.specs.Due.{next_row, IsTailDue};
 ghost use Rattle.va_build.specs.Reading.{TakesEnd, TakesRow, TakesToken};
 
 use crate::operators::{TailRow, tail_row};
 use predict::ParseNode;
-use std::alloc::AllocError;
 use std::marker::Model;
 
 /// What is left to read of a parse tree: its nodes from the next one on, and the index of the next token.
@@ -39,55 +39,49 @@ impl<'a> Reader<'a> {
     }
 
     /// Takes the next node, and answers its row.
-    pub fn row(&mut self) -> Result<u16, AllocError>
-        ensures { IfOk result (λ row. TakesRow self.old self.new row) }
+    pub fn enter(&mut self) -> u16
+        requires { 0 < length self.old.nodes }
+        ensures { TakesRow self.old self.new result }
     {
         let Some((node, rest)) = self.nodes.split_first() else {
-            return Err(AllocError);
+            unreachable!();
         };
         self.nodes = rest;
-        Ok(node.row)
+        node.row
     }
 
-    /// The row of the next node, or None behind the last.
-    pub fn next_row(&self) -> Option<u16> {
-        let node = self.nodes.first()?;
-        Some(node.row)
-    }
-
-    /// Takes the next node, where it is of this row.
-    pub fn take(&mut self, row: u16) -> Result<(), AllocError>
-        ensures { OnOk result (TakesRow self.old self.new row) }
+    /// The row of the next node, which is not taken.
+    pub fn peek(&self) -> u16
+        requires { 0 < length self.now.nodes }
+        ensures { result ≡ next_row self.now }
     {
-        let taken = self.row()?;
-        if taken != row {
-            return Err(AllocError);
-        }
-        Ok(())
+        let Some((node, _)) = self.nodes.split_first() else {
+            unreachable!();
+        };
+        node.row
+    }
+
+    /// Passes the next token, and answers its index. A text has 2000000 tokens at most, and its end.
+    pub fn pass(&mut self) -> u32
+        requires { self.old.at < 2000000 }
+        ensures { TakesToken self.old self.new result }
+    {
+        let at = self.at;
+        self.at += 1;
+        at
     }
 
     /// Takes the next node where it ends the operators behind an operand, and says whether it does.
-    pub fn take_end(&mut self) -> Result<bool, AllocError>
-        ensures { IfOk result (λ ends. TakesEnd ends self.old self.new) }
+    pub fn take_end(&mut self) -> bool
+        requires { IsTailDue self.old }
+        ensures { TakesEnd result self.old self.new }
     {
-        let Some((node, rest)) = self.nodes.split_first() else {
-            return Err(AllocError);
-        };
-        match tail_row(node.row) {
-            Some(TailRow::End) => {
-                self.nodes = rest;
-                Ok(true)
+        match tail_row(self.peek()) {
+            TailRow::End => {
+                self.enter();
+                true
             }
-            _ => Ok(false),
+            TailRow::Operator(_) => false,
         }
-    }
-
-    /// Passes the next token, and answers its index.
-    pub fn token(&mut self) -> Result<u32, AllocError>
-        ensures { IfOk result (λ index. TakesToken self.old self.new index) }
-    {
-        let at = self.at;
-        self.at = at.checked_add(1).ok_or(AllocError)?;
-        Ok(at)
     }
 }

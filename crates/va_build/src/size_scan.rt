@@ -1,15 +1,16 @@
 //! Where the first node of depth 501 begins and where the 65th module has its name, read from a parse tree without recursion.
 //!
-//! What no parse tree holds, as a node where no nonterminal is due, is answered as want of memory is. So is a depth or a number of
-//! operators that does not fit 32 bits.
-ghost use Rattle.std.specs.Prelude.{◌≡◌, ℕ, [], ◌∷◌, ◌++◌, List, map, reverse, slice_get, IfOk, OnOk, MatchOption};
+//! A depth or a number of operators that does not fit 32 bits is answered as want of memory is: no tree so deep fits.
+ghost use Rattle.std.specs.Prelude.{◌≡◌, ◌≤◌, ℕ, [], ◌∷◌, ◌++◌, List, map, reverse, slice_get, IfOk, OnOk, MatchOption};
 ghost use Rattle.predict.specs.declared.symbol.Symbol.TheVariants.{Left};
 ghost use Rattle.va_base.specs.declared.expanded.Expanded.{Expanded};
 ghost use Rattle.va_grammar.specs.Parts.{symbol_of};
-ghost use Rattle.va_build.specs.Reading.{row_symbols, trees_of, first_tree};
+ghost use Rattle.va_build.specs.Reading.{row_symbols, trees_of, first_tree, later_trees};
 ghost use Rattle.va_build.specs.SizeDeep.{earlier};
 ghost use Rattle.va_build.specs.SizeRows as depths;
-ghost use Rattle.va_build.specs.SizeScan.{AreDerived, many, NothingDue, ComesNext, due_parts};
+ghost use Rattle.va_build.specs.Due.{AreDerived};
+ghost use Rattle.va_build.specs.SizeScan.{AreFew, many, NothingDue, ComesNext, due_parts};
+ghost use Rattle.va_build.specs.Width.{width};
 
 use crate::size_links::tree_links;
 use crate::size_rules::{Due, Rule, depth_below, depth_last, opened, row_parts, row_rule};
@@ -32,7 +33,9 @@ pub(crate) struct Found {
 
 /// Looks through a parse tree.
 pub(crate) fn scan(alloc: Global, nodes: &[ParseNode]) -> Result<Found, AllocError>
-    requires { AreDerived (Left 0 ∷ []) (trees_of nodes.now) }
+    requires derived { AreDerived (Left 0 ∷ []) (trees_of nodes.now) }
+    requires whole { later_trees (trees_of nodes.now) ≡ [] }
+    requires fits { width (first_tree (trees_of nodes.now)) ≤ 2000000 }
     ensures deep { IfOk result (λ f. (e : Expanded) → f.deep ≡ depths.deep_in e 0 1 0 (first_tree (trees_of nodes.now))) }
     ensures extra { IfOk result (λ f. (e : Expanded) → f.extra ≡ slice_get (depths.modules_in e 0 0 (first_tree (trees_of nodes.now))) 64) }
 {
@@ -45,18 +48,15 @@ pub(crate) fn scan(alloc: Global, nodes: &[ParseNode]) -> Result<Found, AllocErr
     };
     for node in nodes {
         let Some(link) = links.pop() else {
-            return Err(AllocError);
+            unreachable!();
         };
-        let Some((left, depth)) = ahead.next()? else {
-            return Err(AllocError);
+        let Some((left, depth)) = ahead.next() else {
+            unreachable!();
         };
         let rule = row_rule(left, node.row);
         deep = least(deep, opened(rule, ahead.at, depth, link));
-        names.count(left, ahead.at)?;
+        names.count(left, ahead.at);
         ahead.open(rule, depth, node.row, link)?;
-    }
-    if ahead.next()?.is_some() {
-        return Err(AllocError);
     }
     Ok(Found {
         deep,
@@ -84,15 +84,13 @@ struct Names {
 
 impl Names {
     /// Counts a module, where one begins at this index: where the nonterminal is that of modules.
-    fn count(&mut self, left: u16, at: u32) -> Result<(), AllocError>
-        ensures { OnOk result ((rest : List ℕ) → many self.new.extra self.new.room rest ≡ many self.old.extra self.old.room (depths.name_opened left at ++ rest)) }
+    fn count(&mut self, left: u16, at: u32)
+        requires { at ≤ 2000000 }
+        ensures { (rest : List ℕ) → many self.new.extra self.new.room rest ≡ many self.old.extra self.old.room (depths.name_opened left at ++ rest) }
     {
-        if left != Nonterminal::ModuleDeclaration.number() {
-            return Ok(());
+        if left == Nonterminal::ModuleDeclaration.number() {
+            self.take(at + 1);
         }
-        let name = at.checked_add(1).ok_or(AllocError)?;
-        self.take(name);
-        Ok(())
     }
 
     /// Takes the name of the next module.
@@ -132,16 +130,17 @@ fn begin(alloc: Global) -> Result<Ahead, AllocError>
 
 impl Ahead {
     /// Passes tokens, and takes the nonterminal behind them with its depth. None where tokens alone are due.
-    fn next(&mut self) -> Result<Option<(u16, u32)>, AllocError>
-        ensures { IfOk result (λ r. MatchOption r (NothingDue (reverse self.old.due.items) self.old.at) (λ p. ComesNext (reverse self.old.due.items) self.old.at p.0 p.1 (reverse self.new.due.items) self.new.at)) }
+    fn next(&mut self) -> Option<(u16, u32)>
+        requires { AreFew (reverse self.old.due.items) self.old.at }
+        ensures { MatchOption result (NothingDue (reverse self.old.due.items) self.old.at) (λ p. ComesNext (reverse self.old.due.items) self.old.at p.0 p.1 (reverse self.new.due.items) self.new.at) }
     {
         while let Some(due) = self.due.pop() {
             match due.symbol {
-                Symbol::Kind(_) => self.at = self.at.checked_add(1).ok_or(AllocError)?,
-                Symbol::Left(left) => return Ok(Some((left, due.depth))),
+                Symbol::Kind(_) => self.at += 1,
+                Symbol::Left(left) => return Some((left, due.depth)),
             }
         }
-        Ok(None)
+        None
     }
 
     /// Lets a nonterminal of this depth give way to a row that does this to depths and has so many links.

@@ -1,6 +1,11 @@
 //! The heads of statements: what stands before the statements in them.
-ghost use Rattle.std.specs.Prelude.{◌≡◌, IfOk};
+ghost use Rattle.std.specs.Prelude.{◌≡◌, true, [], ◌∷◌, IfOk};
+ghost use Rattle.predict.specs.Table.{is_among};
 ghost use Rattle.va_base.specs.Expansion.{IsExpanded};
+ghost use Rattle.va_grammar.specs.Rows.{rule, token};
+ghost use Rattle.va_grammar.specs.declared.nonterminal.Nonterminal.TheVariants as nonterminal;
+ghost use Rattle.va_grammar.specs.declared.terminal.Terminal.TheVariants as terminal;
+ghost use Rattle.va_build.specs.Due.{AreDue, IsDue, next_row, turn_rows, loop_rows, IsConditionDue, IsAssignmentDue};
 ghost use Rattle.va_build.specs.Reading.{first_tree, trees};
 ghost use Rattle.va_build.specs.SourceStatements.{statement};
 ghost use Rattle.va_build.specs.StatementHeads.{OneLeft, TwoLeft, ReadsAssignment, ReadsCondition, turn_of, if_of, case_of};
@@ -40,27 +45,20 @@ pub(crate) enum Turn {
     },
 }
 
-/// Whether a loop or a wait comes next.
-pub(crate) fn begins_turn(reader: &Reader<'_>) -> bool {
-    match reader.next_row() {
-        Some(row::FOR | row::WHILE | row::REPEAT | row::WAIT) => true,
-        _ => false,
-    }
-}
-
 /// A keyword, and an expression in parentheses.
 fn read_condition(
     alloc: Global,
     e: &Expanded,
     reader: &mut Reader<'_>,
 ) -> Result<Condition, AllocError>
-    requires { IsExpanded e.now }
+    requires expanded { IsExpanded e.now }
+    requires due { IsConditionDue reader.old }
     ensures { IfOk result (ReadsCondition e.now reader.old reader.new) }
 {
-    let at = reader.token()?;
-    reader.token()?;
+    let at = reader.pass();
+    reader.pass();
     let value = expression(alloc, e, reader)?;
-    reader.token()?;
+    reader.pass();
     Ok(Condition { at, value })
 }
 
@@ -70,10 +68,13 @@ pub(crate) fn if_head(
     e: &Expanded,
     reader: &mut Reader<'_>,
 ) -> Result<Condition, AllocError>
-    requires { IsExpanded e.now }
-    ensures { IfOk result (λ c. TwoLeft e.now reader.old reader.new (if_of e.now reader.new c)) }
+    requires expanded { IsExpanded e.now }
+    requires due { IsDue nonterminal.Statement reader.old }
+    requires row { next_row reader.old ≡ 90 }
+    ensures left { IfOk result (λ c. TwoLeft e.now reader.old reader.new (if_of e.now reader.new c)) }
+    ensures due { IfOk result (λ _. AreDue (rule nonterminal.Statement ∷ rule nonterminal.ElseBranch ∷ []) reader.new) }
 {
-    reader.take(row::IF)?;
+    reader.enter();
     let test = read_condition(alloc, e, reader)?;
     Ok(test)
 }
@@ -84,10 +85,13 @@ pub(crate) fn case_head(
     e: &Expanded,
     reader: &mut Reader<'_>,
 ) -> Result<Condition, AllocError>
-    requires { IsExpanded e.now }
-    ensures { IfOk result (λ c. OneLeft e.now reader.old reader.new 1 (case_of e.now reader.new c)) }
+    requires expanded { IsExpanded e.now }
+    requires due { IsDue nonterminal.Statement reader.old }
+    requires row { next_row reader.old ≡ 91 }
+    ensures left { IfOk result (λ c. OneLeft e.now reader.old reader.new 1 (case_of e.now reader.new c)) }
+    ensures due { IfOk result (λ _. AreDue (rule nonterminal.CaseItems ∷ token terminal.Endcase ∷ []) reader.new) }
 {
-    reader.take(row::CASE)?;
+    reader.enter();
     let selector = read_condition(alloc, e, reader)?;
     Ok(selector)
 }
@@ -98,12 +102,15 @@ pub(crate) fn read_turn(
     e: &Expanded,
     reader: &mut Reader<'_>,
 ) -> Result<Turn, AllocError>
-    requires { IsExpanded e.now }
-    ensures { IfOk result (λ t. OneLeft e.now reader.old reader.new 0 (turn_of t (statement e.now reader.new.at (first_tree (trees reader.new))))) }
+    requires expanded { IsExpanded e.now }
+    requires due { IsDue nonterminal.Statement reader.old }
+    requires row { is_among turn_rows (next_row reader.old) ≡ true }
+    ensures left { IfOk result (λ t. OneLeft e.now reader.old reader.new 0 (turn_of t (statement e.now reader.new.at (first_tree (trees reader.new))))) }
+    ensures due { IfOk result (λ _. IsDue nonterminal.Statement reader.new) }
 {
-    match reader.next_row() {
-        Some(row::FOR) => for_head(alloc, e, reader),
-        Some(row::WAIT) => wait_head(alloc, e, reader),
+    match reader.peek() {
+        row::FOR => for_head(alloc, e, reader),
+        row::WAIT => wait_head(alloc, e, reader),
         _ => loop_head(alloc, e, reader),
     }
 }
@@ -114,28 +121,32 @@ fn read_assignment(
     e: &Expanded,
     reader: &mut Reader<'_>,
 ) -> Result<Assignment, AllocError>
-    requires { IsExpanded e.now }
+    requires expanded { IsExpanded e.now }
+    requires due { IsAssignmentDue reader.old }
     ensures { IfOk result (ReadsAssignment e.now reader.old reader.new) }
 {
     let target = named(alloc, e, reader)?;
-    reader.token()?;
+    reader.pass();
     let value = expression(alloc, e, reader)?;
     Ok(Assignment { target, value })
 }
 
 fn for_head(alloc: Global, e: &Expanded, reader: &mut Reader<'_>) -> Result<Turn, AllocError>
-    requires { IsExpanded e.now }
-    ensures { IfOk result (λ t. OneLeft e.now reader.old reader.new 0 (turn_of t (statement e.now reader.new.at (first_tree (trees reader.new))))) }
+    requires expanded { IsExpanded e.now }
+    requires due { IsDue nonterminal.Statement reader.old }
+    requires row { next_row reader.old ≡ 92 }
+    ensures left { IfOk result (λ t. OneLeft e.now reader.old reader.new 0 (turn_of t (statement e.now reader.new.at (first_tree (trees reader.new))))) }
+    ensures due { IfOk result (λ _. IsDue nonterminal.Statement reader.new) }
 {
-    reader.take(row::FOR)?;
-    let at = reader.token()?;
-    reader.token()?;
+    reader.enter();
+    let at = reader.pass();
+    reader.pass();
     let first = read_assignment(alloc, e, reader)?;
-    reader.token()?;
+    reader.pass();
     let test = expression(alloc, e, reader)?;
-    reader.token()?;
+    reader.pass();
     let step = read_assignment(alloc, e, reader)?;
-    reader.token()?;
+    reader.pass();
     Ok(Turn::For {
         at,
         first,
@@ -145,10 +156,13 @@ fn for_head(alloc: Global, e: &Expanded, reader: &mut Reader<'_>) -> Result<Turn
 }
 
 fn loop_head(alloc: Global, e: &Expanded, reader: &mut Reader<'_>) -> Result<Turn, AllocError>
-    requires { IsExpanded e.now }
-    ensures { IfOk result (λ t. OneLeft e.now reader.old reader.new 0 (turn_of t (statement e.now reader.new.at (first_tree (trees reader.new))))) }
+    requires expanded { IsExpanded e.now }
+    requires due { IsDue nonterminal.Statement reader.old }
+    requires row { is_among loop_rows (next_row reader.old) ≡ true }
+    ensures left { IfOk result (λ t. OneLeft e.now reader.old reader.new 0 (turn_of t (statement e.now reader.new.at (first_tree (trees reader.new))))) }
+    ensures due { IfOk result (λ _. IsDue nonterminal.Statement reader.new) }
 {
-    match reader.row()? {
+    match reader.enter() {
         row::WHILE => {
             let test = read_condition(alloc, e, reader)?;
             Ok(Turn::While(test))
@@ -157,19 +171,22 @@ fn loop_head(alloc: Global, e: &Expanded, reader: &mut Reader<'_>) -> Result<Tur
             let count = read_condition(alloc, e, reader)?;
             Ok(Turn::Repeat(count))
         }
-        _ => Err(AllocError),
+        _ => unreachable!(),
     }
 }
 
 fn wait_head(alloc: Global, e: &Expanded, reader: &mut Reader<'_>) -> Result<Turn, AllocError>
-    requires { IsExpanded e.now }
-    ensures { IfOk result (λ t. OneLeft e.now reader.old reader.new 0 (turn_of t (statement e.now reader.new.at (first_tree (trees reader.new))))) }
+    requires expanded { IsExpanded e.now }
+    requires due { IsDue nonterminal.Statement reader.old }
+    requires row { next_row reader.old ≡ 95 }
+    ensures left { IfOk result (λ t. OneLeft e.now reader.old reader.new 0 (turn_of t (statement e.now reader.new.at (first_tree (trees reader.new))))) }
+    ensures due { IfOk result (λ _. IsDue nonterminal.Statement reader.new) }
 {
-    reader.take(row::WAIT)?;
-    let at = reader.token()?;
-    reader.token()?;
+    reader.enter();
+    let at = reader.pass();
+    reader.pass();
     let head = event(alloc, e, reader)?;
-    reader.token()?;
+    reader.pass();
     Ok(Turn::Wait {
         at,
         event: head.event,

@@ -1,9 +1,11 @@
 //! Reading what statements are made of, but for the statements in them.
 //!
-//! Each function takes the next tree of the parse tree, and its tokens with it. A row that the nonterminal does not have, which
-//! no parse tree holds, is answered as want of memory is.
-ghost use Rattle.std.specs.Prelude.{◌≡◌, [], ◌∷◌, IfOk};
+//! Each function takes the next tree of the parse tree, and its tokens with it.
+ghost use Rattle.std.specs.Prelude.{◌≡◌, true, [], ◌∷◌, IfOk};
 ghost use Rattle.va_base.specs.Expansion.{IsExpanded};
+ghost use Rattle.va_grammar.specs.declared.nonterminal.Nonterminal.TheVariants as nonterminal;
+ghost use Rattle.predict.specs.Table.{is_among};
+ghost use Rattle.va_build.specs.Due.{IsDue, next_row, simple_rows};
 ghost use Rattle.va_build.specs.Reading.{Reads, first_tree, trees};
 ghost use Rattle.va_build.specs.SourceStatements as source_statements;
 
@@ -21,17 +23,18 @@ pub(crate) fn second_node(
     e: &Expanded,
     reader: &mut Reader<'_>,
 ) -> Result<Option<NameAt>, AllocError>
-    requires { IsExpanded e.now }
+    requires expanded { IsExpanded e.now }
+    requires due { IsDue nonterminal.SecondNode reader.old }
     ensures { IfOk result (λ v. Reads (source_statements.second_node e.now) reader.old reader.new v) }
 {
-    match reader.row()? {
+    match reader.enter() {
         row::SECOND_NODE => {
-            reader.token()?;
+            reader.pass();
             let name = named(alloc, e, reader)?;
             Ok(Some(name))
         }
         row::NO_SECOND_NODE => Ok(None),
-        _ => Err(AllocError),
+        _ => unreachable!(),
     }
 }
 
@@ -41,26 +44,28 @@ fn initialiser(
     e: &Expanded,
     reader: &mut Reader<'_>,
 ) -> Result<Option<Expr>, AllocError>
-    requires { IsExpanded e.now }
+    requires expanded { IsExpanded e.now }
+    requires due { IsDue nonterminal.Initialiser reader.old }
     ensures { IfOk result (λ v. Reads (source_statements.initialiser e.now) reader.old reader.new v) }
 {
-    match reader.row()? {
+    match reader.enter() {
         row::INITIALISER => {
-            reader.token()?;
+            reader.pass();
             let value = expression(alloc, e, reader)?;
             Ok(Some(value))
         }
         row::NO_INITIALISER => Ok(None),
-        _ => Err(AllocError),
+        _ => unreachable!(),
     }
 }
 
 /// A variable.
 fn variable(alloc: Global, e: &Expanded, reader: &mut Reader<'_>) -> Result<Variable, AllocError>
-    requires { IsExpanded e.now }
+    requires expanded { IsExpanded e.now }
+    requires due { IsDue nonterminal.Variable reader.old }
     ensures { IfOk result (λ v. Reads (source_statements.variable e.now) reader.old reader.new (v ∷ [])) }
 {
-    reader.take(row::VARIABLE)?;
+    reader.enter();
     let name = named(alloc, e, reader)?;
     let initialiser = initialiser(alloc, e, reader)?;
     Ok(Variable { name, initialiser })
@@ -72,10 +77,11 @@ pub(crate) fn variables(
     e: &Expanded,
     reader: &mut Reader<'_>,
 ) -> Result<Vec<Variable>, AllocError>
-    requires { IsExpanded e.now }
+    requires expanded { IsExpanded e.now }
+    requires due { IsDue nonterminal.Variables reader.old }
     ensures { IfOk result (λ v. Reads (source_statements.variables e.now) reader.old reader.new v.items) }
 {
-    reader.take(row::VARIABLES)?;
+    reader.enter();
     let first = variable(alloc, e, reader)?;
     let list = variables_behind(alloc, e, reader, first)?;
     Ok(list)
@@ -88,19 +94,20 @@ fn variables_behind(
     reader: &mut Reader<'_>,
     first: Variable,
 ) -> Result<Vec<Variable>, AllocError>
-    requires { IsExpanded e.now }
+    requires expanded { IsExpanded e.now }
+    requires due { IsDue nonterminal.MoreVariables reader.old }
     ensures { IfOk result (λ v. Reads (λ at t. first ∷ source_statements.more_variables e.now at t) reader.old reader.new v.items) }
 {
     let mut list = vec![in alloc; first]?;
     loop {
-        match reader.row()? {
+        match reader.enter() {
             row::MORE_VARIABLES => {
-                reader.token()?;
+                reader.pass();
                 let next = variable(alloc, e, reader)?;
                 list.push(next)?;
             }
             row::NO_MORE_VARIABLES => return Ok(list),
-            _ => return Err(AllocError),
+            _ => unreachable!(),
         }
     }
 }
@@ -111,17 +118,18 @@ pub(crate) fn label(
     e: &Expanded,
     reader: &mut Reader<'_>,
 ) -> Result<Option<NameAt>, AllocError>
-    requires { IsExpanded e.now }
+    requires expanded { IsExpanded e.now }
+    requires due { IsDue nonterminal.Label reader.old }
     ensures { IfOk result (λ v. Reads (source_statements.label e.now) reader.old reader.new v) }
 {
-    match reader.row()? {
+    match reader.enter() {
         row::LABEL => {
-            reader.token()?;
+            reader.pass();
             let name = named(alloc, e, reader)?;
             Ok(Some(name))
         }
         row::NO_LABEL => Ok(None),
-        _ => Err(AllocError),
+        _ => unreachable!(),
     }
 }
 
@@ -131,17 +139,18 @@ fn declaration(
     e: &Expanded,
     reader: &mut Reader<'_>,
 ) -> Result<Declaration, AllocError>
-    requires { IsExpanded e.now }
+    requires expanded { IsExpanded e.now }
+    requires due { IsDue nonterminal.Declaration reader.old }
     ensures { IfOk result (λ v. Reads (source_statements.declaration e.now) reader.old reader.new (v ∷ [])) }
 {
-    let row = reader.row()?;
-    let at = reader.token()?;
+    let row = reader.enter();
+    let at = reader.pass();
     let list = variables(alloc, e, reader)?;
-    reader.token()?;
+    reader.pass();
     match row {
         row::DECLARED_REAL => Ok(declared(at, Ty::Real, list)),
         row::DECLARED_INTEGER => Ok(declared(at, Ty::Integer, list)),
-        _ => Err(AllocError),
+        _ => unreachable!(),
     }
 }
 
@@ -164,18 +173,19 @@ pub(crate) fn declarations(
     e: &Expanded,
     reader: &mut Reader<'_>,
 ) -> Result<Vec<Declaration>, AllocError>
-    requires { IsExpanded e.now }
+    requires expanded { IsExpanded e.now }
+    requires due { IsDue nonterminal.Declarations reader.old }
     ensures { IfOk result (λ v. Reads (source_statements.declarations e.now) reader.old reader.new v.items) }
 {
     let mut list = Vec::new(alloc);
     loop {
-        match reader.row()? {
+        match reader.enter() {
             row::DECLARATIONS => {
                 let next = declaration(alloc, e, reader)?;
                 list.push(next)?;
             }
             row::NO_DECLARATIONS => return Ok(list),
-            _ => return Err(AllocError),
+            _ => unreachable!(),
         }
     }
 }
@@ -187,19 +197,20 @@ pub(crate) fn values_behind(
     reader: &mut Reader<'_>,
     first: Expr,
 ) -> Result<Vec<Expr>, AllocError>
-    requires { IsExpanded e.now }
+    requires expanded { IsExpanded e.now }
+    requires due { IsDue nonterminal.MoreCaseValues reader.old }
     ensures { IfOk result (λ v. Reads (λ at t. first ∷ source_statements.more_values e.now at t) reader.old reader.new v.items) }
 {
     let mut list = vec![in alloc; first]?;
     loop {
-        match reader.row()? {
+        match reader.enter() {
             row::MORE_VALUES => {
-                reader.token()?;
+                reader.pass();
                 let next = expression(alloc, e, reader)?;
                 list.push(next)?;
             }
             row::NO_MORE_VALUES => return Ok(list),
-            _ => return Err(AllocError),
+            _ => unreachable!(),
         }
     }
 }
@@ -211,38 +222,40 @@ fn analyses_behind(
     reader: &mut Reader<'_>,
     first: NameAt,
 ) -> Result<Vec<NameAt>, AllocError>
-    requires { IsExpanded e.now }
+    requires expanded { IsExpanded e.now }
+    requires due { IsDue nonterminal.MoreEventArguments reader.old }
     ensures { IfOk result (λ v. Reads (λ at t. first ∷ source_statements.more_analyses e.now at t) reader.old reader.new v.items) }
 {
     let mut list = vec![in alloc; first]?;
     loop {
-        match reader.row()? {
+        match reader.enter() {
             row::MORE_ANALYSES => {
-                reader.token()?;
+                reader.pass();
                 let next = named(alloc, e, reader)?;
                 list.push(next)?;
             }
             row::NO_MORE_ANALYSES => return Ok(list),
-            _ => return Err(AllocError),
+            _ => unreachable!(),
         }
     }
 }
 
 /// The analyses of an event, if it lists any.
 fn analyses(alloc: Global, e: &Expanded, reader: &mut Reader<'_>) -> Result<Vec<NameAt>, AllocError>
-    requires { IsExpanded e.now }
+    requires expanded { IsExpanded e.now }
+    requires due { IsDue nonterminal.EventArguments reader.old }
     ensures { IfOk result (λ v. Reads (source_statements.analyses e.now) reader.old reader.new v.items) }
 {
-    match reader.row()? {
+    match reader.enter() {
         row::ANALYSES => {
-            reader.token()?;
+            reader.pass();
             let first = named(alloc, e, reader)?;
             let list = analyses_behind(alloc, e, reader, first)?;
-            reader.token()?;
+            reader.pass();
             Ok(list)
         }
         row::NO_ANALYSES => Ok(Vec::new(alloc)),
-        _ => Err(AllocError),
+        _ => unreachable!(),
     }
 }
 
@@ -259,13 +272,14 @@ pub(crate) fn event(
     e: &Expanded,
     reader: &mut Reader<'_>,
 ) -> Result<EventHead, AllocError>
-    requires { IsExpanded e.now }
+    requires expanded { IsExpanded e.now }
+    requires due { IsDue nonterminal.Event reader.old }
     ensures analyses { IfOk result (λ v. Reads (source_statements.event_analyses e.now) reader.old reader.new v.analyses.items) }
     ensures event { IfOk result (λ v. v.event ≡ source_statements.event_kind (first_tree (trees reader.old))) }
 {
-    match reader.row()? {
+    match reader.enter() {
         row::INITIAL_STEP => {
-            reader.token()?;
+            reader.pass();
             let analyses = analyses(alloc, e, reader)?;
             Ok(EventHead {
                 event: EventKind::InitialStep,
@@ -273,14 +287,14 @@ pub(crate) fn event(
             })
         }
         row::FINAL_STEP => {
-            reader.token()?;
+            reader.pass();
             let analyses = analyses(alloc, e, reader)?;
             Ok(EventHead {
                 event: EventKind::FinalStep,
                 analyses,
             })
         }
-        _ => Err(AllocError),
+        _ => unreachable!(),
     }
 }
 
@@ -291,15 +305,16 @@ fn named_statement(
     reader: &mut Reader<'_>,
     at: u32,
 ) -> Result<Stmt, AllocError>
-    requires { IsExpanded e.now }
+    requires expanded { IsExpanded e.now }
+    requires due { IsDue nonterminal.StatementRest reader.old }
     ensures { IfOk result (λ v. Reads (source_statements.named_statement e.now at) reader.old reader.new v) }
 {
     let name = name_at(alloc, e, at)?;
-    match reader.row()? {
+    match reader.enter() {
         row::ASSIGN => {
-            reader.token()?;
+            reader.pass();
             let value = expression(alloc, e, reader)?;
-            reader.token()?;
+            reader.pass();
             Ok(Stmt::Assign {
                 at,
                 target: name,
@@ -307,13 +322,13 @@ fn named_statement(
             })
         }
         row::CONTRIBUTE => {
-            reader.token()?;
+            reader.pass();
             let first = named(alloc, e, reader)?;
             let second = second_node(alloc, e, reader)?;
-            reader.token()?;
-            reader.token()?;
+            reader.pass();
+            reader.pass();
             let value = expression(alloc, e, reader)?;
-            reader.token()?;
+            reader.pass();
             Ok(Stmt::Contribute {
                 at,
                 access: name,
@@ -322,7 +337,7 @@ fn named_statement(
                 value,
             })
         }
-        _ => Err(AllocError),
+        _ => unreachable!(),
     }
 }
 
@@ -332,18 +347,19 @@ fn task_arguments(
     e: &Expanded,
     reader: &mut Reader<'_>,
 ) -> Result<Vec<Arg>, AllocError>
-    requires { IsExpanded e.now }
+    requires expanded { IsExpanded e.now }
+    requires due { IsDue nonterminal.TaskArguments reader.old }
     ensures { IfOk result (λ v. Reads (source_statements.task_arguments e.now) reader.old reader.new v.items) }
 {
-    match reader.row()? {
+    match reader.enter() {
         row::TASK_ARGUMENTS => {
-            reader.token()?;
+            reader.pass();
             let args = arguments(alloc, e, reader)?;
-            reader.token()?;
+            reader.pass();
             Ok(args)
         }
         row::NO_TASK_ARGUMENTS => Ok(Vec::new(alloc)),
-        _ => Err(AllocError),
+        _ => unreachable!(),
     }
 }
 
@@ -353,20 +369,22 @@ pub(crate) fn simple(
     e: &Expanded,
     reader: &mut Reader<'_>,
 ) -> Result<Stmt, AllocError>
-    requires { IsExpanded e.now }
+    requires expanded { IsExpanded e.now }
+    requires due { IsDue nonterminal.Statement reader.old }
+    requires row { is_among simple_rows (next_row reader.old) ≡ true }
     ensures { IfOk result (λ v. Reads (source_statements.statement e.now) reader.old reader.new v) }
 {
-    match reader.row()? {
+    match reader.enter() {
         row::NAMED => {
-            let at = reader.token()?;
+            let at = reader.pass();
             let value = named_statement(alloc, e, reader, at)?;
             Ok(value)
         }
         row::TASK => {
-            let at = reader.token()?;
+            let at = reader.pass();
             let name = name_at(alloc, e, at)?;
             let args = task_arguments(alloc, e, reader)?;
-            reader.token()?;
+            reader.pass();
             Ok(Stmt::Task {
                 at,
                 name,
@@ -374,23 +392,23 @@ pub(crate) fn simple(
             })
         }
         row::NULL => {
-            let at = reader.token()?;
+            let at = reader.pass();
             Ok(Stmt::Null { at })
         }
-        _ => Err(AllocError),
+        _ => unreachable!(),
     }
 }
 
 /// A colon, if there is one.
-pub(crate) fn colon(reader: &mut Reader<'_>) -> Result<(), AllocError>
-    ensures { IfOk result (λ v. Reads (λ _ _. tt) reader.old reader.new v) }
+pub(crate) fn colon(reader: &mut Reader<'_>)
+    requires due { IsDue nonterminal.OptionalColon reader.old }
+    ensures { Reads {X = Unit {0}} (λ _ _. tt) reader.old reader.new tt }
 {
-    match reader.row()? {
+    match reader.enter() {
         row::COLON => {
-            reader.token()?;
-            Ok(())
+            reader.pass();
         }
-        row::NO_COLON => Ok(()),
-        _ => Err(AllocError),
+        row::NO_COLON => {}
+        _ => unreachable!(),
     }
 }

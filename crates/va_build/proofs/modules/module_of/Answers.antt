@@ -2,16 +2,44 @@ use Rattle.std.proofs.Common.{arith, refl, sym}
 use Rattle.va_build.specs.Reading.{row_symbols}
 use Rattle.va_build.specs.SourceOf.{discipline_of, module_of, nature}
 use Rattle.va_build.proofs.TakenRows.{read, told}
+use Rattle.va_build.proofs.DueRows.{behind, node_left, one_due, only, passed, taken_only, token_left}
 use Rattle.va_build.proofs.modules.module_of.Goals as goal
 
 pub returns-clause-module : goal.returns-clause-module
 unfolding row_symbols
-returns-clause-module c = read (module_of c.args.e.now c.args.attributes.items) _ _ _ _ 30 _ c.in_ok-take.ensures refl (grind arith) (grind arith) (grind arith) (grind arith)
+returns-clause-module c = read (module_of c.args.e.now c.args.attributes.items) _ _ _ _ 30 _ c.enter.ensures (only 30 c.requires.due c.enter.ensures refl) (grind arith) (grind arith) (grind arith) (grind arith)
 
 pub returns-clause-no_nature : goal.returns-clause-no_nature
 unfolding row_symbols
-returns-clause-no_nature c = sym (told (λ tree. nature c.args.e.now c.args.attributes.items c.args.reader.now.at tree) _ _ _ 30 _ c.in_ok-take.ensures refl refl)
+returns-clause-no_nature c = sym (told (λ tree. nature c.args.e.now c.args.attributes.items c.args.reader.now.at tree) _ _ _ 30 _ c.enter.ensures (only 30 c.requires.due c.enter.ensures refl) refl)
 
 pub returns-clause-no_discipline : goal.returns-clause-no_discipline
 unfolding row_symbols
-returns-clause-no_discipline c = sym (told (λ tree. discipline_of c.args.e.now c.args.attributes.items c.args.reader.now.at tree) _ _ _ 30 _ c.in_ok-take.ensures refl refl)
+returns-clause-no_discipline c = sym (told (λ tree. discipline_of c.args.e.now c.args.attributes.items c.args.reader.now.at tree) _ _ _ 30 _ c.enter.ensures (only 30 c.requires.due c.enter.ensures refl) refl)
+
+pub enter-requires : goal.enter-requires
+enter-requires c = node_left c.requires.due
+
+pub pass-requires : goal.pass-requires
+unfolding row_symbols
+pass-requires c = token_left (taken_only 30 c.requires.due c.enter.ensures refl)
+
+pub pass-at-requires : goal.pass-at-requires
+unfolding row_symbols
+pass-at-requires c = token_left (passed (taken_only 30 c.requires.due c.enter.ensures refl) c.pass.ensures)
+
+pub ports-requires-clause-due : goal.ports-requires-clause-due
+unfolding row_symbols
+ports-requires-clause-due c = one_due (passed (passed (taken_only 30 c.requires.due c.enter.ensures refl) c.pass.ensures) c.pass-at.ensures)
+
+pub pass-requires-2 : goal.pass-requires-2
+unfolding row_symbols
+pass-requires-2 c = token_left (behind (passed (passed (taken_only 30 c.requires.due c.enter.ensures refl) c.pass.ensures) c.pass-at.ensures) c.in_ok-ports.ensures)
+
+pub items-requires-clause-due : goal.items-requires-clause-due
+unfolding row_symbols
+items-requires-clause-due c = one_due (passed (behind (passed (passed (taken_only 30 c.requires.due c.enter.ensures refl) c.pass.ensures) c.pass-at.ensures) c.in_ok-ports.ensures) c.pass-2.ensures)
+
+pub pass-requires-3 : goal.pass-requires-3
+unfolding row_symbols
+pass-requires-3 c = token_left (behind (passed (behind (passed (passed (taken_only 30 c.requires.due c.enter.ensures refl) c.pass.ensures) c.pass-at.ensures) c.in_ok-ports.ensures) c.pass-2.ensures) c.in_ok-items.ensures)

@@ -3,9 +3,8 @@ use Rattle.va_build.specs.Reading.{row_symbols}
 use Rattle.va_build.proofs.OperatorRows.{operands}
 use Rattle.va_build.proofs.operators.operand_row.Goals as goal
 
-pub returns-in-134 : goal.returns-in-134
-unfolding row_symbols
-returns-in-134 c = operands c.args.row c.in-134.is
+pub returns-in_default : goal.returns-in_default
+returns-in_default c = operands c.args.row c.requires c.in_default.in_default-own.rest.0.0.0.1 c.in_default.in_default-own.rest.0.0.1 c.in_default.in_default-own.rest.0.1 c.in_default.in_default-own.rest.1
 
 pub returns-in-162 : goal.returns-in-162
 unfolding row_symbols

@@ -3,9 +3,8 @@ use Rattle.va_build.specs.Reading.{row_symbols}
 use Rattle.va_build.proofs.OperatorRows.{ends}
 use Rattle.va_build.proofs.operators.tail_row.Goals as goal
 
-pub returns-in-136 : goal.returns-in-136
-unfolding row_symbols
-returns-in-136 c = ends c.args.row c.in-136.is
+pub returns-in_default : goal.returns-in_default
+returns-in_default c = ends c.args.row c.requires c.in_default.in_default-own.rest.0.0.0.0.0.0.0.0.0.0.0.0.0.1 c.in_default.in_default-own.rest.0.0.0.0.0.0.0.0.0.0.0.0.1 c.in_default.in_default-own.rest.0.0.0.0.0.0.0.0.0.0.0.1 c.in_default.in_default-own.rest.0.0.0.0.0.0.0.0.0.0.1 c.in_default.in_default-own.rest.0.0.0.0.0.0.0.0.0.1 c.in_default.in_default-own.rest.0.0.0.0.0.0.0.0.1 c.in_default.in_default-own.rest.0.0.0.0.0.0.0.1 c.in_default.in_default-own.rest.0.0.0.0.0.0.1 c.in_default.in_default-own.rest.0.0.0.0.0.1 c.in_default.in_default-own.rest.0.0.0.0.1 c.in_default.in_default-own.rest.0.0.0.1 c.in_default.in_default-own.rest.0.0.1 c.in_default.in_default-own.rest.0.1 c.in_default.in_default-own.rest.1
 
 pub returns-in-135 : goal.returns-in-135
 unfolding row_symbols

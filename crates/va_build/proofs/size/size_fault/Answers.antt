@@ -1,11 +1,22 @@
-use Rattle.std.proofs.Common.{sym, ◌∙◌, subst}
+use Rattle.std.proofs.Common.{ap, arith, refl, sym, ◌∙◌, subst}
+use Rattle.va_build.specs.Reading.{later_trees, trees_of}
 use Rattle.va_build.specs.SizeFaults.{IsFaultAt}
 use Rattle.va_build.proofs.SizeFaults.{none_stands, least_stands, same_fault}
+use Rattle.va_build.proofs.DueRows.{text_due}
+use Rattle.va_build.proofs.TreesBack.{parsed_back}
 use Rattle.va_build.proofs.SizeTrees.{parsed_derived, source_deep, source_names}
 use Rattle.va_build.proofs.size.size_fault.Goals as goal
 
-pub scan-requires : goal.scan-requires
-scan-requires c = (parsed_derived _ c.args.tree.now c.nodes.result.now c.requires.parsed c.nodes.ensures, tt)
+pub scan-requires-clause-derived : goal.scan-requires-clause-derived
+scan-requires-clause-derived c = (parsed_derived _ c.args.tree.now c.nodes.result.now c.requires.parsed c.nodes.ensures, tt)
+
+pub scan-requires-clause-whole : goal.scan-requires-clause-whole
+scan-requires-clause-whole c = ap (λ ns. later_trees (trees_of ns)) c.nodes.ensures ∙ ap later_trees (parsed_back _ c.args.tree.now c.requires.parsed)
+
+pub scan-requires-clause-fits : goal.scan-requires-clause-fits
+scan-requires-clause-fits c =
+    let d = text_due c.args.e.now c.args.tree.now c.requires.expanded c.requires.parsed (record { nodes = c.nodes.result.now; at = 0 }) c.nodes.ensures refl in
+    omega (arith, d.fits)
 
 pub returns-in-None-clause-none : goal.returns-in-None-clause-none
 returns-in-None-clause-none c = λ eq s is.
