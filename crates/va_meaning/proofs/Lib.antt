@@ -4,10 +4,10 @@ pub mod CycleReach
 pub mod CycleScopes
 pub mod CycleSites
 pub mod Elaborated
+pub mod Endings
 pub mod EvaluationLaws
 pub mod Fixed
 pub mod Invariants
-pub mod MoreTurns
 pub mod Nesting
 pub mod NumberedCalls
 pub mod Partial

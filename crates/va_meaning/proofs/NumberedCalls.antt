@@ -16,8 +16,8 @@ use Rattle.va_meaning.specs.Called.{called, system_called}
 use Rattle.va_meaning.specs.Elaborated.{Elaborated, Initialiser}
 use Rattle.va_meaning.specs.Evaluation.{zeros, started, functions, functions_to, evaluated, evaluated_to}
 use Rattle.va_meaning.specs.Nesting.{IfFunction, IfLookedAt, CallsOnly, ArgumentsCallOnly, AllCallOnly, RunsOnly, AllRunOnly, ItemsRunOnly, DefaultsRunOnly, InitialisersCallOnly, IsWithoutCycle}
-use Rattle.va_meaning.specs.Points.{Context, without_unknowns}
-use Rattle.va_meaning.specs.Values.{Functions, Result}
+use Rattle.va_meaning.specs.Points.{Context, Result, without_unknowns}
+use Rattle.va_meaning.specs.Values.{Functions}
 use Rattle.va_meaning.proofs.CycleCalls.{if_function}
 use Rattle.va_meaning.proofs.Nesting.{BlocksRunOnly, initialised_same, blocks_same, called_agree, functions_same}
 
@@ -93,14 +93,14 @@ module _ (M : Elaborated) (R : ℕ → Type 0) (numbered : (at g : ℕ) → M.me
   blocks_numbered (s ∷ rest) = (runs_numbered s, blocks_numbered rest)
 
 -- an evaluation where functions are seen deeper than there are functions
-pub evaluated_deeper : {V : Type 0} (M : Elaborated) (c : Context V) → IsWithoutCycle M
+pub evaluated_deeper : {E V : Type 0} (M : Elaborated) (c : Context E V) → IsWithoutCycle M
     → ((at g : ℕ) → M.meaning at ≡ Some (means.Function g) → g < length M.functions) → (depth : ℕ) → length M.functions ≤ depth
     → evaluated_to M c depth ≡ evaluated M c
 evaluated_deeper {V} M c nested numbered depth le =
     let R : ℕ → Type 0 = λ g. g < length M.functions in
-    let F : Functions V = functions_to M (without_unknowns c) depth in
-    let G : Functions V = functions M c in
-    let agree : (g : ℕ) → g < length M.functions → (outs : List (Result V)) → F g outs ≡ G g outs =
+    let F : Functions E V = functions_to M (without_unknowns c) depth in
+    let G : Functions E V = functions M c in
+    let agree : (g : ℕ) → g < length M.functions → (outs : List (Result E V)) → F g outs ≡ G g outs =
     λ g less outs. functions_same M (without_unknowns c) (length M.functions) depth g outs le (nested g less) in
     λ j. initialised_same M (without_unknowns c) (without_unknowns c).point.unknowns (IfFunction R) F G (called_agree M (without_unknowns c) R F G agree) M.initialisers (zeros M c.ops) (initialisers_numbered M R numbered M.initialisers) j
     >>= λ vars. blocks_same M c c.point.unknowns (IfFunction R) F G (called_agree M c R F G agree) 0 M.blocks (started M c.ops vars) (blocks_numbered M R numbered M.blocks) j
