@@ -1,15 +1,18 @@
 -- Computations that give related values, or end early as they may: sequences, choices, loops.
-use Rattle.std.specs.Prelude.{◌≡◌, ℕ, zero, suc, ◌≤◌, ◌⊎◌, Bool, true, false, if◌then◌else◌, List, [], ◌∷◌}
-use Rattle.std.proofs.Common.{refl, subst, arith, inl, inr}
+use Rattle.std.specs.Prelude.{◌≡◌, ℕ, zero, suc, ◌≤◌, ◌⊎◌, Bool, true, false, ℤ, pos, ◌-ℤ◌, int_lt, if◌then◌else◌, List, [], ◌∷◌}
+use Rattle.std.proofs.Common.{refl, ap, sym, subst, arith, inl, inr}
 use Rattle.alg_laws.specs.declared.number.Number.{Number}
 use Rattle.alg_laws.specs.declared.number.Number.TheVariants.{Real, Int}
 use Rattle.alg_laws.specs.declared.number.Reason.{Reason}
 use Rattle.alg_laws.specs.Loop.{turns, tested, Tested, while_turns}
 use Rattle.alg_laws.specs.Outcome.{Outcome, gives, ends, ◌>>=◌, among}
-use Rattle.alg_laws.specs.Related.{NumbersRelated, reals, integers, OutcomesRelated, both_give as outcomes_give, both_end as outcomes_end, ListsRelated, no_more, one_more}
+use Rattle.alg_laws.specs.Related.{Relates, NumbersRelated, reals, integers, OutcomesRelated, both_give as outcomes_give, both_end as outcomes_end, ListsRelated, no_more, one_more}
 use Rattle.alg_laws.proofs.Outcomes.{numbers_equal}
 use Rattle.alg_laws.proofs.Related.{chosen_related}
+use Rattle.alg_laws.specs.Operations.{Operations}
 use Rattle.va_meaning.specs.Points.{Result, State}
+use Rattle.va_meaning.specs.Runs.{Counted, turns_left, count_down, repeated}
+use Rattle.va_meaning.proofs.Partial.{IfGives}
 use Rattle.va_meaning.specs.Related.{Endings, IsClosed, same_ends, any_ends, more_turns, Alike, both_give, both_end, first_ends, second_ends, ResultsRelated, BoundsRelated, StatesRelated}
 
 pub same_closed : {E : Type 0} → IsClosed (same_ends {E = E})
@@ -49,6 +52,55 @@ alike_weaker g P Q w (both_end h) = both_end h
 alike_weaker g P Q w (first_ends h) = first_ends h
 alike_weaker g P Q w (second_ends h) = second_ends h
 
+-- the second tells the first's ends as other ones
+abbrev pub told_ends : {E F : Type 0} → (E → F) → Endings E F
+told_ends f = record { together = λ e d. f e ≡ d; first_alone = λ e. ⊥; second_alone = λ d. ⊥ }
+
+pub told_closed : {E F : Type 0} (f : E → F) → IsClosed (told_ends f)
+told_closed f = record { first = λ e d h. absurd h; second = λ e d h. absurd h }
+
+pub told_equal : {E F A : Type 0} (f : E → F) {a : Outcome E A} {b : Outcome F A} → Alike (told_ends f) ◌≡◌ a b → b ≡ among f a
+told_equal f (both_give h) = ap gives (sym h)
+told_equal f (both_end h) = ap ends (sym h)
+told_equal f (first_ends h) = absurd h
+told_equal f (second_ends h) = absurd h
+
+-- ends of which more is allowed
+pub record IsWeaker {E F : Type 0} (g g' : Endings E F) : Type 0 where
+  pub together : (e : E) (f : F) → g.together e f → g'.together e f
+  pub first : (e : E) → g.first_alone e → g'.first_alone e
+  pub second : (f : F) → g.second_alone f → g'.second_alone f
+
+pub weaker_itself : {E F : Type 0} (g : Endings E F) → IsWeaker g g
+weaker_itself g = record { together = λ e f h. h; first = λ e h. h; second = λ f h. h }
+
+pub weaker_any : {E F : Type 0} (g : Endings E F) → IsWeaker g any_ends
+weaker_any g = record { together = λ e f h. tt; first = λ e h. tt; second = λ f h. tt }
+
+pub alike_up : {E F A B : Type 0} (g g' : Endings E F) → IsWeaker g g' → {P : A → B → Type 0} {a : Outcome E A} {b : Outcome F B} → Alike g P a b → Alike g' P a b
+alike_up g g' w (both_give h) = both_give h
+alike_up g g' w (both_end {e = e} {f = f} h) = both_end (w.together e f h)
+alike_up g g' w (first_ends {e = e} h) = first_ends (w.first e h)
+alike_up g g' w (second_ends {f = f} h) = second_ends (w.second f h)
+
+pub bounds_up : {E F : Type 0} (g g' : Endings E F) → IsWeaker g g' → (e : E) (n m : ℕ) → BoundsRelated g e n m → BoundsRelated g' e n m
+bounds_up g g' w e n m (inl same) = inl same
+bounds_up g g' w e n m (inr more) = inr (more.0, w.first e more.1)
+
+pub alike_itself : {E A : Type 0} (a : Outcome E A) → Alike same_ends ◌≡◌ a a
+alike_itself (gives x) = both_give refl
+alike_itself (ends e) = both_end refl
+
+-- where both give a value
+pub both_gave : {E F A B : Type 0} (P : A → B → Type 0) (x : A) (y : B) {a : Outcome E A} {b : Outcome F B} → Alike any_ends P a b → a ≡ gives x → b ≡ gives y → P x y
+both_gave {A = A} {B = B} P x y (both_give {x = u} {y = v} h) e f =
+    let same : u ≡ x = cc (e) in
+    let same' : v ≡ y = cc (f) in
+    subst (λ (t : B). P x t) same' (subst (λ (t : A). P t v) same h)
+both_gave P x y (both_end h) e f = cc (e)
+both_gave P x y (first_ends h) e f = cc (e)
+both_gave P x y (second_ends h) e f = cc (f)
+
 -- equal values
 pub states_equal : {V : Type 0} {s t : State V} → StatesRelated ◌≡◌ s t → s ≡ t
 states_equal h = λ j. record {
@@ -60,6 +112,23 @@ states_equal h = λ j. record {
 pub lists_equal : {A : Type 0} {xs ys : List A} → ListsRelated ◌≡◌ xs ys → xs ≡ ys
 lists_equal no_more = refl
 lists_equal (one_more h hs) = λ j. h j ∷ lists_equal hs j
+
+-- values beside themselves
+pub same_itself : {V : Type 0} (o : Operations V) → Relates o o ◌≡◌
+same_itself o = record {
+  zero = refl;
+  one = refl;
+  sum = λ x y u v h k. (λ j. o.sum (h j) (k j));
+  negative = λ x u h. (λ j. o.negative (h j));
+  product = λ x y u v h k. (λ j. o.product (h j) (k j));
+  recip = λ x u h. (λ j. o.recip (h j));
+  fun1 = λ f x u h. (λ j. o.fun1 f (h j));
+  fun2 = λ f x y u v h k. (λ j. o.fun2 f (h j) (k j));
+  less = λ x y u v h k. (λ j. o.less (h j) (k j));
+  at_most = λ x y u v h k. (λ j. o.at_most (h j) (k j));
+  same = λ x y u v h k. (λ j. o.same (h j) (k j));
+  near = λ x u h. (λ j. o.near (h j));
+}
 
 -- arguments beside themselves
 pub itself : {V : Type 0} (v : Number V) → NumbersRelated ◌≡◌ v v
@@ -140,3 +209,22 @@ module _ {E F : Type 0} (g : Endings E F) (closed : IsClosed g) where
       (λ t b q. k t.state b.state q.1)
       n m bound s a p)
       (λ t b q. both_give q.1)
+
+  -- `repeat`
+  pub repeated_alike : {S A : Type 0} (P : S → A → Type 0) (too_many : E) (too_many' : F) → g.together too_many too_many' → (n m : ℕ) → BoundsRelated g too_many n m
+      → (i j : ℤ) → i ≡ j → (turn : S → Outcome E S) (turn' : A → Outcome F A) → ((s : S) (a : A) → P s a → Alike g P (turn s) (turn' a))
+      → (s : S) (a : A) → P s a → Alike g P (repeated too_many n i turn s) (repeated too_many' m j turn' a)
+  repeated_alike {S} {A} P tm tm' e n m bound i j same turn turn' k s a p =
+      let Q = λ (x : Counted S) (y : Counted A). (x.left ≡ y.left) × P x.state y.state in
+      then_alike Q P _ _
+      (turns_alike Q Q tm tm' e gives gives turns_left turns_left (count_down turn) (count_down turn') (λ x y q. both_give q) (λ x y q. ap (int_lt (pos 0)) q.0)
+      (λ x y q. then_alike P Q _ _ (k x.state y.state q.1) (λ s a p. both_give (ap (λ z. z -ℤ pos 1) q.0, p))) n m bound _ _ (same, p))
+      (λ x y q. both_give q.1)
+
+  -- two computations of which each keeps something, where any end may stand alone
+  pub both_keep : {A B : Type 0} (P : A → Type 0) (Q : B → Type 0) (S : A → B → Type 0) → ((e : E) → g.first_alone e) → ((f : F) → g.second_alone f)
+      → (a : Outcome E A) (b : Outcome F B) → IfGives P a → IfGives Q b → ((x : A) (y : B) → P x → Q y → S x y) → Alike g S a b
+  both_keep P Q S first second (gives x) (gives y) h k l = both_give (l x y h k)
+  both_keep P Q S first second (gives x) (ends f) h k l = second_ends (second f)
+  both_keep P Q S first second (ends e) (gives y) h k l = first_ends (first e)
+  both_keep P Q S first second (ends e) (ends f) h k l = both_end (closed.first e f (first e))

@@ -8,7 +8,7 @@ use Rattle.alg_laws.specs.declared.number.Number.TheVariants.{Real, Int}
 use Rattle.alg_laws.specs.Dual.{dual, lift}
 use Rattle.alg_laws.specs.NumberParts.{lifted, NumberValid}
 use Rattle.alg_laws.specs.Operations.{Operations, IsAlgebra}
-use Rattle.alg_laws.specs.Related.{Relates, NumbersRelated, reals, integers, ListsRelated, no_more, one_more, HasMain, IsValid, IsLifted, Parts}
+use Rattle.alg_laws.specs.Related.{NumbersRelated, reals, integers, ListsRelated, no_more, one_more, HasMain, IsValid, IsLifted, Parts}
 use Rattle.alg_laws.specs.declared.number.Reason.{Reason}
 use Rattle.alg_laws.specs.declared.number.Reason.TheVariants.{Turns}
 use Rattle.alg_laws.proofs.Outcomes.{gives_related, numbers_equal, has_main, is_valid, valid_is, is_lifted}
@@ -20,14 +20,14 @@ use Rattle.va_sem.specs.Meanings.{names_of_module}
 use Rattle.va_meaning.specs.Elaboration.{module_seen}
 use Rattle.va_meaning.proofs.Elaborated.{elaboration_laws}
 use Rattle.va_meaning.specs.Bias.{SameFixed}
-use Rattle.va_meaning.specs.EvaluationLaws.{main_point, PointValid, ContextValid, StateValid, MainsOfEvaluations, ValidityOfEvaluations, LiftsOfEvaluations, MainsOfParts, HaveMoreTurns, BoundsOfEvaluations, DepthsOfFunctions, FixedOfEvaluations}
+use Rattle.va_meaning.specs.EvaluationLaws.{main_point, PointValid, ContextValid, StateValid, MainsOfEvaluations, ValidityOfEvaluations, LiftsOfEvaluations, MainsOfParts, EndsOfEvaluations, HaveMoreTurns, BoundsOfEvaluations, DepthsOfFunctions, FixedOfEvaluations}
 use Rattle.va_meaning.specs.Elaborated.{Elaborated}
 use Rattle.va_meaning.specs.Evaluation.{evaluated, functions_to}
-use Rattle.va_meaning.specs.Points.{Point, Result, Answers, State, over, without_unknowns}
+use Rattle.va_meaning.specs.Points.{Point, Result, Answers, State, over, unanswered, without_unknowns}
 use Rattle.va_meaning.specs.Related.{same_ends, more_turns, Alike, both_give, AnswersRelated, PointsRelated, ContextsRelated, StatesRelated}
 use Rattle.va_meaning.specs.Residuals.{lifted_point, moved_point, in_parts}
 use Rattle.va_meaning.specs.Rows.{residuals}
-use Rattle.va_meaning.proofs.Endings.{same_closed, more_closed, same_related, gives_more, ends_more, alike_weaker, itself, states_equal, lists_equal, outcomes_themselves}
+use Rattle.va_meaning.proofs.Endings.{same_closed, more_closed, told_ends, told_closed, told_equal, same_related, gives_more, ends_more, alike_weaker, same_itself, itself, states_equal, lists_equal, outcomes_themselves}
 use Rattle.va_meaning.proofs.Fixed.{evaluated_both}
 use Rattle.va_meaning.proofs.Partial.{both_gave}
 use Rattle.va_meaning.proofs.Nesting.{functions_same}
@@ -55,22 +55,6 @@ module _ {V : Type 0} (o : Operations V) where
   }
 
 -- More turns change nothing but the want of them.
-same_itself : {V : Type 0} (o : Operations V) → Relates o o ◌≡◌
-same_itself o = record {
-  zero = refl;
-  one = refl;
-  sum = λ x y u v h k. (λ j. o.sum (h j) (k j));
-  negative = λ x u h. (λ j. o.negative (h j));
-  product = λ x y u v h k. (λ j. o.product (h j) (k j));
-  recip = λ x u h. (λ j. o.recip (h j));
-  fun1 = λ f x u h. (λ j. o.fun1 f (h j));
-  fun2 = λ f x y u v h k. (λ j. o.fun2 f (h j) (k j));
-  less = λ x y u v h k. (λ j. o.less (h j) (k j));
-  at_most = λ x y u v h k. (λ j. o.at_most (h j) (k j));
-  same = λ x y u v h k. (λ j. o.same (h j) (k j));
-  near = λ x u h. (λ j. o.near (h j));
-}
-
 module _ {E V : Type 0} (M : Elaborated) (o : Operations V) (s : V) (P : Point V) (stops : Reason → E) (answers : Answers E V) (h : HaveMoreTurns stops answers) where
   more_context : (n m : ℕ) → n ≤ m → ContextsRelated (more_turns (stops Turns)) ◌≡◌ (over o s P n stops answers) (over o s P m stops answers)
   more_context n m le = record {
@@ -97,6 +81,22 @@ module _ {E V : Type 0} (M : Elaborated) (o : Operations V) (s : V) (P : Point V
   deeper_more n depth more le f outs =
       alike_weaker (more_turns (stops Turns)) (NumbersRelated ◌≡◌) ◌≡◌ (λ s t k. numbers_equal k)
       (functions_related (more_turns (stops Turns)) (more_closed (stops Turns)) M _ _ ◌≡◌ (more_context n n (omega arith)) depth more (inr (le, refl)) f outs outs (outcomes_themselves (stops Turns) outs))
+
+-- The type of early ends changes nothing else.
+pub ends_of_evaluations : {E V : Type 0} (o : Operations V) (valid : V → Type 0) → EndsOfEvaluations E V o valid
+ends_of_evaluations o valid = record {
+  evaluation = λ M s P n stops.
+      told_equal stops
+      (alike_weaker (told_ends stops) (StatesRelated ◌≡◌) ◌≡◌ (λ x y k. states_equal k)
+      (evaluated_related (told_ends stops) (told_closed stops) M (over o s P n (λ reason. reason) (unanswered o)) (over o s P n stops (unanswered o)) ◌≡◌ (record {
+        ops = same_itself o;
+        derivative = refl;
+        point = record { parameters = λ p. itself (P.parameters p); given = λ p. refl; temperature = refl; unknowns = λ i. refl };
+        bound = inl refl;
+        stops = λ reason. refl;
+        answers = λ number outs outs' h. both_give refl;
+      })));
+}
 
 pub bounds_of_evaluations : {E V : Type 0} (o : Operations V) (valid : V → Type 0) → BoundsOfEvaluations E V o valid
 bounds_of_evaluations o valid = record {

@@ -1,3 +1,7 @@
+pub mod Bias
+pub mod ClassFunctions
+pub mod ClassRuns
+pub mod Classes
 pub mod CycleCalls
 pub mod CycleLaws
 pub mod CycleReach
@@ -6,8 +10,10 @@ pub mod CycleSites
 pub mod Elaborated
 pub mod Endings
 pub mod EvaluationLaws
+pub mod Everywhere
 pub mod Fixed
 pub mod Invariants
+pub mod Motions
 pub mod Nesting
 pub mod NumberedCalls
 pub mod Partial

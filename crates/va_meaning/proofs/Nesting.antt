@@ -48,7 +48,7 @@ first_agrees o looked is [] (y ∷ ys) h = absurd h
 first_agrees o looked is (x ∷ xs) [] h = absurd h
 first_agrees o looked is (x ∷ xs) (y ∷ ys) h = h.0 is
 
-said : (b : Bool) (X : Type 0) → b ≡ true → IfLookedAt b X → X
+pub said : (b : Bool) (X : Type 0) → b ≡ true → IfLookedAt b X → X
 said true X is x = x
 said false X is x = absurd (cc (is))
 

@@ -39,7 +39,7 @@ use Rattle.va_meaning.specs.Elaborated.{Elaborated, Initialiser, Function}
 use Rattle.va_meaning.specs.Evaluation.{zeros, started, initialised, passed, function_value, function_or_none, run_blocks, functions_to, functions, evaluated}
 use Rattle.va_meaning.specs.Points.{Context, Result, Store, Held, State, held_of, is_quantity, without_unknowns, told}
 use Rattle.va_meaning.specs.Related.{Endings, IsClosed, Alike, both_give, both_end, ResultsRelated, BoundsRelated, ContextsRelated, StoresRelated, HeldRelated, StatesRelated}
-use Rattle.va_meaning.proofs.Endings.{less_bound, ends_first, then_alike, turns_alike, while_alike, told_alike}
+use Rattle.va_meaning.proofs.Endings.{less_bound, ends_first, then_alike, while_alike, repeated_alike, told_alike}
 use Rattle.va_meaning.specs.Rows.{flow_of, given_to, all_given_to, row, residuals}
 use Rattle.va_meaning.specs.Runs.{statement_size, quantity_of, marked, Counted, repeated, test_of, assigned, assign_value, contributed_to, contributed, is_among, run, run_all, run_case, run_default}
 use Rattle.va_meaning.specs.Unknowns.{is_unknown, value_at, branch_of, signed, unknown_value, potential_between, access_value}
@@ -252,20 +252,6 @@ module _ {E E' V W : Type 0} (g : Endings E E') (closed : IsClosed g) (M : Elabo
     bounded_related test test' turn turn' k l s t n =
         while_alike g closed (StatesRelated R) (c.stops Turns) (d.stops Turns) (h.stops Turns) test test' turn turn' k l c.bound d.bound h.bound s t n
 
-    CountedRelated : Counted (State V) → Counted (State W) → Type 0
-    CountedRelated a b = (a.left ≡ b.left) × StatesRelated R a.state b.state
-
-    repeated_related : (i j : ℤ) → i ≡ j → (turn : State V → Outcome E (State V)) (turn' : State W → Outcome E' (State W))
-        → ((s : State V) (t : State W) → StatesRelated R s t → Alike g (StatesRelated R) (turn s) (turn' t))
-        → (s : State V) (t : State W) → StatesRelated R s t
-        → Alike g (StatesRelated R) (repeated (c.stops Turns) c.bound i turn s) (repeated (d.stops Turns) d.bound j turn' t)
-    unfolding CountedRelated
-    repeated_related i j e turn turn' k s t l =
-        then_alike g closed CountedRelated _ _ _
-        (turns_alike g closed CountedRelated CountedRelated (c.stops Turns) (d.stops Turns) (h.stops Turns) _ _ _ _ _ _ (λ a b q. both_give q) (λ a b q. ap (int_lt (pos 0)) q.0)
-        (λ a b q. then_alike g closed _ _ _ _ (k a.state b.state q.1) (λ x y n. both_give (ap (λ z. z -ℤ pos 1) q.0, n))) c.bound d.bound h.bound _ _ (e, l))
-        (λ a b q. both_give q.1)
-
     count_related : (v : Number V) (w : Number W) → NumbersRelated R v w → Alike g ◌≡◌ (told c (to_integer c.ops v)) (told d (to_integer d.ops w))
     count_related v w k =
         said (subst (λ (i : Outcome Reason ℤ). OutcomesRelated ◌≡◌ (to_integer c.ops v) i) (to_integer_related c.ops d.ops R h.ops k)
@@ -291,7 +277,7 @@ module _ {E E' V W : Type 0} (g : Endings E E') (closed : IsClosed g) (M : Elabo
           bounded_related _ _ _ _ (λ s t k. test_related _ test s t k) (λ s t k. run_related _ _ body s t k) s t k
       run_related biased place (repeat_loop at count body) s t k =
           then_alike g closed _ _ _ _ (value_related _ count s.variables t.variables k.variables)
-          (λ v w l. then_alike g closed ◌≡◌ _ _ _ (count_related v w l) (λ i j e. repeated_related i j e _ _ (λ s t k. run_related _ _ body s t k) s t k))
+          (λ v w l. then_alike g closed ◌≡◌ _ _ _ (count_related v w l) (λ i j e. repeated_alike g closed (StatesRelated R) (c.stops Turns) (d.stops Turns) (h.stops Turns) c.bound d.bound h.bound i j e _ _ (λ s t k. run_related _ _ body s t k) s t k))
       run_related biased place (event at InitialStep analyses body) s t k = run_related biased place body s t k
       run_related biased place (event at FinalStep analyses body) s t k = both_give k
       run_related biased place (assign at target value) s t k = assign_related _ _ value s t k

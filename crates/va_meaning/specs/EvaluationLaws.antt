@@ -7,7 +7,7 @@ use Rattle.alg_laws.specs.declared.number.Reason.TheVariants.{Turns}
 use Rattle.alg_laws.specs.Dual.{dual, lift}
 use Rattle.alg_laws.specs.NumberParts.{main_of, NumberValid}
 use Rattle.alg_laws.specs.Operations.{Operations}
-use Rattle.alg_laws.specs.Outcome.{gives, ends}
+use Rattle.alg_laws.specs.Outcome.{gives, ends, among}
 use Rattle.alg_laws.specs.Related.{OutcomesRelated, ListsRelated, HasMain, IsValid, IsLifted, Parts}
 use Rattle.va_sem.specs.Declarations.{analog_bodies}
 use Rattle.va_sem.specs.Meanings.{names_of_module}
@@ -19,7 +19,7 @@ use Rattle.va_meaning.specs.Bias.{KeepsToBias, SameFixed}
 use Rattle.va_meaning.specs.Elaborated.{Elaborated}
 use Rattle.va_meaning.specs.Evaluation.{evaluated, functions, functions_to}
 use Rattle.va_meaning.specs.Nesting.{IsWithoutCycle}
-use Rattle.va_meaning.specs.Points.{Point, Result, Answers, State, over, at_unknowns, without_unknowns}
+use Rattle.va_meaning.specs.Points.{Point, Result, Answers, State, over, unanswered, at_unknowns, without_unknowns}
 use Rattle.va_meaning.specs.Related.{same_ends, more_turns, AnswersRelated, StatesRelated}
 use Rattle.va_meaning.specs.Residuals.{lifted_point, moved_point, residual_parts}
 use Rattle.va_meaning.specs.Rows.{residuals}
@@ -44,6 +44,12 @@ pub record MainsOfEvaluations (E V : Type 0) (o : Operations V) (valid : V → T
       → AnswersRelated same_ends HasMain answers mains
       → OutcomesRelated (ListsRelated HasMain) (residuals M (over (dual o) s P n stops answers))
       (residuals M (over o s.main (main_point P) n stops mains))
+
+-- An undefined evaluation ends with what is told for the reason, and that is all that the type of early ends changes. Here every
+-- numbered call is 0.
+pub record EndsOfEvaluations (E V : Type 0) (o : Operations V) (valid : V → Type 0) : Type 0 where
+  pub evaluation : (M : Elaborated) (s : V) (P : Point V) (n : ℕ) (stops : Reason → E)
+      → evaluated M (over o s P n stops (unanswered o)) ≡ among stops (evaluated M (over o s P n (λ reason. reason) (unanswered o)))
 
 -- points and states with valid values
 pub record PointValid {V : Type 0} (valid : V → Type 0) (P : Point V) : Type 0 where

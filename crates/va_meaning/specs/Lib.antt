@@ -1,11 +1,13 @@
 pub mod Bias
 pub mod Called
+pub mod Classes
 pub mod CycleLaws
 pub mod Elaborated
 pub mod Elaboration
 pub mod ElaborationLaws
 pub mod Evaluation
 pub mod EvaluationLaws
+pub mod Motions
 pub mod Nesting
 pub mod Points
 pub mod Related

@@ -5,7 +5,8 @@
 //! free too.
 ghost use Rattle.alg_laws.specs.AtFour.{AtFour, AtThree};
 ghost use Rattle.va_meaning.specs.CycleLaws.{DepthsInModules};
-ghost use Rattle.va_meaning.specs.EvaluationLaws.{BoundsOfEvaluations, DepthsOfFunctions, FixedOfEvaluations, LiftsOfEvaluations, MainsOfEvaluations, MainsOfParts, ValidityOfEvaluations};
+ghost use Rattle.va_meaning.specs.EvaluationLaws.{BoundsOfEvaluations, DepthsOfFunctions, EndsOfEvaluations, FixedOfEvaluations, LiftsOfEvaluations, MainsOfEvaluations, MainsOfParts, ValidityOfEvaluations};
+ghost use Rattle.va_meaning.specs.Motions.{MotionsOfEvaluations};
 ghost use Rattle.va_meaning.specs.SetUpLaws.{PointsOfSetUps};
 ghost use Rattle.va_meaning.specs.TypeLaws.{TypesOfValues};
 
@@ -15,6 +16,11 @@ use std::marker::PhantomData;
 /// Over dual numbers an evaluation has the mains that it has below, and is undefined for the same reason.
 pub fn mains_of_evaluations<A: Algebra, E: Drop>(_law: PhantomData<A>, _ends: PhantomData<E>)
     ensures { AtThree A.ops A.valid (MainsOfEvaluations E) }
+{}
+
+/// An undefined evaluation ends with what is told for the reason, and that is all that the type of early ends changes.
+pub fn ends_of_evaluations<A: Algebra, E: Drop>(_law: PhantomData<A>, _ends: PhantomData<E>)
+    ensures { AtFour A.ops A.valid (EndsOfEvaluations E) }
 {}
 
 /// At a valid point every value of an evaluation is valid.
@@ -30,6 +36,11 @@ pub fn lifts_of_evaluations<A: Algebra, E: Drop>(_law: PhantomData<A>, _ends: Ph
 /// The mains of residuals don't move with what is varied, and they are defined exactly where the residuals are.
 pub fn mains_of_parts<A: Algebra>(_law: PhantomData<A>)
     ensures { AtThree A.ops A.valid MainsOfParts }
+{}
+
+/// Over dual numbers, where a module keeps to what moves, what doesn't move has the part 0.
+pub fn motions_of_evaluations<A: Algebra, E: Drop>(_law: PhantomData<A>, _ends: PhantomData<E>)
+    ensures { AtThree A.ops A.valid (MotionsOfEvaluations E) }
 {}
 
 /// An evaluation that is defined is the same where loops may make more turns, and one that ends early for another reason than want of
