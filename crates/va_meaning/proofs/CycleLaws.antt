@@ -158,10 +158,10 @@ called_within s number m at g e =
     let seen_long : length (map (function_of numbers) (functions_of m)) ≡ length (functions_of m) = length-map (functions_of m) (function_of numbers) in
     subst (λ n. g < n) (long ∙ sym seen_long) (names_are_numbered.functions s number m at g e)
 
-pub depths_in_modules : {V : Type 0} (o : Operations V) (valid : V → Type 0) → DepthsInModules V o valid
+pub depths_in_modules : {E V : Type 0} (o : Operations V) (valid : V → Type 0) → DepthsInModules E V o valid
 depths_in_modules o valid = record {
-  deeper = λ s number m sound x P n answers depth le f less outs.
-      (depths_of_functions o valid).deeper (module_seen s number m) x P n answers (nested s number m sound) depth le f less outs;
-  evaluation = λ s number m sound x P n answers depth le.
-      evaluated_deeper (module_seen s number m) (over o x P n answers) (nested s number m sound) (called_within s number m) depth le;
+  deeper = λ s number m sound x P n stops answers depth le f less outs.
+      (depths_of_functions o valid).deeper (module_seen s number m) x P n stops answers (nested s number m sound) depth le f less outs;
+  evaluation = λ s number m sound x P n stops answers depth le.
+      evaluated_deeper (module_seen s number m) (over o x P n stops answers) (nested s number m sound) (called_within s number m) depth le;
 }

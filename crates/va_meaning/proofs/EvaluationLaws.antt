@@ -1,6 +1,6 @@
 -- The relations under which evaluations go alike: the main of a dual number, validity, and not moving.
-use Rattle.std.specs.Prelude.{◌≡◌, ℕ, ◌==◌, Bool, true, false, if◌then◌else◌, List, All, length}
-use Rattle.std.proofs.Common.{refl}
+use Rattle.std.specs.Prelude.{◌≡◌, ℕ, ◌==◌, ◌≤◌, Bool, true, false, if◌then◌else◌, List, All, length}
+use Rattle.std.proofs.Common.{refl, arith, inl, inr}
 use Rattle.std.proofs.lemmas.List.Elements.{All-nil, All-cons}
 use Rattle.alg_laws.specs.declared.dual.Dual.{Dual}
 use Rattle.alg_laws.specs.declared.number.Number.{Number}
@@ -9,9 +9,9 @@ use Rattle.alg_laws.specs.Dual.{dual, lift}
 use Rattle.alg_laws.specs.NumberParts.{lifted, NumberValid}
 use Rattle.alg_laws.specs.Operations.{Operations, IsAlgebra}
 use Rattle.alg_laws.specs.Related.{NumbersRelated, reals, integers, ListsRelated, no_more, one_more, HasMain, IsValid, IsLifted, Parts}
-use Rattle.alg_laws.specs.declared.number.Reason.TheVariants.{Turns, IntRange}
-use Rattle.alg_laws.proofs.Extends.{gives_extended, ends_extended}
-use Rattle.alg_laws.proofs.Outcomes.{gives_related, has_main, is_valid, valid_is, is_lifted}
+use Rattle.alg_laws.specs.declared.number.Reason.{Reason}
+use Rattle.alg_laws.specs.declared.number.Reason.TheVariants.{Turns}
+use Rattle.alg_laws.proofs.Outcomes.{gives_related, numbers_equal, has_main, is_valid, valid_is, is_lifted}
 use Rattle.alg_laws.proofs.Related.{duals_related}
 use Rattle.alg_laws.proofs.Relations.{mains_relate, validity_relates, lifts_relate}
 use Rattle.va_sem.specs.Declarations.{analog_bodies}
@@ -20,62 +20,111 @@ use Rattle.va_sem.specs.Meanings.{names_of_module}
 use Rattle.va_meaning.specs.Elaboration.{module_seen}
 use Rattle.va_meaning.proofs.Elaborated.{elaboration_laws}
 use Rattle.va_meaning.specs.Bias.{SameFixed}
-use Rattle.va_meaning.specs.EvaluationLaws.{main_point, PointValid, ContextValid, StateValid, MainsOfEvaluations, ValidityOfEvaluations, LiftsOfEvaluations, MainsOfParts, BoundsOfEvaluations, DepthsOfFunctions, FixedOfEvaluations}
-use Rattle.va_meaning.specs.Points.{Point, State, over, without_unknowns}
-use Rattle.va_meaning.specs.Related.{PointsRelated, ContextsRelated, StatesRelated}
+use Rattle.va_meaning.specs.EvaluationLaws.{main_point, PointValid, ContextValid, StateValid, MainsOfEvaluations, ValidityOfEvaluations, LiftsOfEvaluations, MainsOfParts, EndsOfEvaluations, HaveMoreTurns, BoundsOfEvaluations, DepthsOfFunctions, FixedOfEvaluations}
+use Rattle.va_meaning.specs.Elaborated.{Elaborated}
+use Rattle.va_meaning.specs.Evaluation.{evaluated, functions_to}
+use Rattle.va_meaning.specs.Points.{Point, Result, Answers, State, over, unanswered, without_unknowns}
+use Rattle.va_meaning.specs.Related.{same_ends, more_turns, Alike, both_give, AnswersRelated, PointsRelated, ContextsRelated, StatesRelated}
 use Rattle.va_meaning.specs.Residuals.{lifted_point, moved_point, in_parts}
+use Rattle.va_meaning.specs.Rows.{residuals}
+use Rattle.va_meaning.proofs.Endings.{same_closed, more_closed, told_ends, told_closed, told_equal, same_related, gives_more, ends_more, alike_weaker, same_itself, itself, states_equal, lists_equal, outcomes_themselves}
 use Rattle.va_meaning.proofs.Fixed.{evaluated_both}
 use Rattle.va_meaning.proofs.Partial.{both_gave}
-use Rattle.va_meaning.proofs.MoreTurns.{evaluated_extends, residuals_extend, deeper_extends, outcomes_extend_themselves}
 use Rattle.va_meaning.proofs.Nesting.{functions_same}
-use Rattle.va_meaning.proofs.Related.{evaluated_related, residuals_related}
+use Rattle.va_meaning.proofs.Related.{functions_related, evaluated_related, residuals_related}
 
 module _ {V : Type 0} (o : Operations V) where
-  main_context : (s : Dual V) (P : Point (Dual V)) (n : ℕ) (answers : ℕ → Dual V)
-      → ContextsRelated HasMain (over (dual o) s P n answers) (over o s.main (main_point P) n (λ k. (answers k).main))
-  main_context s P n answers = record {
+  main_context : {E : Type 0} (s : Dual V) (P : Point (Dual V)) (n : ℕ) (stops : Reason → E) (answers : Answers E (Dual V)) (mains : Answers E V)
+      → AnswersRelated same_ends HasMain answers mains
+      → ContextsRelated same_ends HasMain (over (dual o) s P n stops answers) (over o s.main (main_point P) n stops mains)
+  main_context s P n stops answers mains h = record {
     ops = mains_relate o;
     derivative = refl;
     point = record { parameters = λ p. has_main (P.parameters p); given = λ p. refl; temperature = refl; unknowns = λ i. refl };
-    bound = refl;
-    answers = λ k. refl;
+    bound = inl refl;
+    stops = λ reason. refl;
+    answers = h;
   }
 
-  pub mains_of_evaluations : (valid : V → Type 0) → MainsOfEvaluations V o valid
+  pub mains_of_evaluations : {E : Type 0} (valid : V → Type 0) → MainsOfEvaluations E V o valid
   mains_of_evaluations valid = record {
-    evaluation = λ M s P n answers. evaluated_related M _ _ HasMain (main_context s P n answers);
-    residuals = λ M s P n answers. residuals_related M _ _ HasMain (main_context s P n answers);
+    evaluation = λ M s P n stops answers mains h.
+        same_related (StatesRelated HasMain) (evaluated_related same_ends same_closed M _ _ HasMain (main_context s P n stops answers mains h));
+    residuals = λ M s P n stops answers mains h.
+        same_related (ListsRelated HasMain) (residuals_related same_ends same_closed M _ _ HasMain (main_context s P n stops answers mains h));
   }
 
 -- More turns change nothing but the want of them.
-pub bounds_of_evaluations : {V : Type 0} (o : Operations V) (valid : V → Type 0) → BoundsOfEvaluations V o valid
+module _ {E V : Type 0} (M : Elaborated) (o : Operations V) (s : V) (P : Point V) (stops : Reason → E) (answers : Answers E V) (h : HaveMoreTurns stops answers) where
+  more_context : (n m : ℕ) → n ≤ m → ContextsRelated (more_turns (stops Turns)) ◌≡◌ (over o s P n stops answers) (over o s P m stops answers)
+  more_context n m le = record {
+    ops = same_itself o;
+    derivative = refl;
+    point = record { parameters = λ p. itself (P.parameters p); given = λ p. refl; temperature = refl; unknowns = λ i. refl };
+    bound = inr (le, refl);
+    stops = λ reason. inr refl;
+    answers = h;
+  }
+
+  evaluated_more : (n m : ℕ) → n ≤ m → Alike (more_turns (stops Turns)) ◌≡◌ (evaluated M (over o s P n stops answers)) (evaluated M (over o s P m stops answers))
+  evaluated_more n m le =
+      alike_weaker (more_turns (stops Turns)) (StatesRelated ◌≡◌) ◌≡◌ (λ s t k. states_equal k)
+      (evaluated_related (more_turns (stops Turns)) (more_closed (stops Turns)) M _ _ ◌≡◌ (more_context n m le))
+
+  residuals_more : (n m : ℕ) → n ≤ m → Alike (more_turns (stops Turns)) ◌≡◌ (residuals M (over o s P n stops answers)) (residuals M (over o s P m stops answers))
+  residuals_more n m le =
+      alike_weaker (more_turns (stops Turns)) (ListsRelated ◌≡◌) ◌≡◌ (λ s t k. lists_equal k)
+      (residuals_related (more_turns (stops Turns)) (more_closed (stops Turns)) M _ _ ◌≡◌ (more_context n m le))
+
+  deeper_more : (n depth more : ℕ) → depth ≤ more → (f : ℕ) (outs : List (Result E V))
+      → Alike (more_turns (stops Turns)) ◌≡◌ (functions_to M (over o s P n stops answers) depth f outs) (functions_to M (over o s P n stops answers) more f outs)
+  deeper_more n depth more le f outs =
+      alike_weaker (more_turns (stops Turns)) (NumbersRelated ◌≡◌) ◌≡◌ (λ s t k. numbers_equal k)
+      (functions_related (more_turns (stops Turns)) (more_closed (stops Turns)) M _ _ ◌≡◌ (more_context n n (omega arith)) depth more (inr (le, refl)) f outs outs (outcomes_themselves (stops Turns) outs))
+
+-- The type of early ends changes nothing else.
+pub ends_of_evaluations : {E V : Type 0} (o : Operations V) (valid : V → Type 0) → EndsOfEvaluations E V o valid
+ends_of_evaluations o valid = record {
+  evaluation = λ M s P n stops.
+      told_equal stops
+      (alike_weaker (told_ends stops) (StatesRelated ◌≡◌) ◌≡◌ (λ x y k. states_equal k)
+      (evaluated_related (told_ends stops) (told_closed stops) M (over o s P n (λ reason. reason) (unanswered o)) (over o s P n stops (unanswered o)) ◌≡◌ (record {
+        ops = same_itself o;
+        derivative = refl;
+        point = record { parameters = λ p. itself (P.parameters p); given = λ p. refl; temperature = refl; unknowns = λ i. refl };
+        bound = inl refl;
+        stops = λ reason. refl;
+        answers = λ number outs outs' h. both_give refl;
+      })));
+}
+
+pub bounds_of_evaluations : {E V : Type 0} (o : Operations V) (valid : V → Type 0) → BoundsOfEvaluations E V o valid
 bounds_of_evaluations o valid = record {
-  evaluation = λ M s P n m answers le last e. gives_extended Turns last (evaluated_extends M o s P answers n m le) e;
-  residuals = λ M s P n m answers le rows e. gives_extended Turns rows (residuals_extend M o s P answers n m le) e;
-  undefined = λ M s P n m answers le e. ends_extended Turns IntRange (evaluated_extends M o s P answers n m le) (λ k. cc (k)) e;
+  evaluation = λ M s P n m stops answers h le last e. gives_more (stops Turns) last (evaluated_more M o s P stops answers h n m le) e;
+  residuals = λ M s P n m stops answers h le rows e. gives_more (stops Turns) rows (residuals_more M o s P stops answers h n m le) e;
+  undefined = λ M s P n m stops answers h le e other k. ends_more (stops Turns) e other (evaluated_more M o s P stops answers h n m le) k;
 }
 
-pub depths_of_functions : {V : Type 0} (o : Operations V) (valid : V → Type 0) → DepthsOfFunctions V o valid
+pub depths_of_functions : {E V : Type 0} (o : Operations V) (valid : V → Type 0) → DepthsOfFunctions E V o valid
 depths_of_functions o valid = record {
-  defined = λ M s P n answers depth more le f outs v e.
-      gives_extended Turns v (deeper_extends M o s P answers n depth more le f outs outs (outcomes_extend_themselves outs)) e;
-  deeper = λ M s P n answers h depth le f less outs. functions_same M (without_unknowns (over o s P n answers)) (length M.functions) depth f outs le (h f less);
+  defined = λ M s P n stops answers h depth more le f outs v e. gives_more (stops Turns) v (deeper_more M o s P stops answers h n depth more le f outs) e;
+  deeper = λ M s P n stops answers h depth le f less outs. functions_same M (without_unknowns (over o s P n stops answers)) (length M.functions) depth f outs le (h f less);
 }
 
-pub fixed_of_evaluations : {V : Type 0} (o : Operations V) (valid : V → Type 0) → FixedOfEvaluations V o valid
+pub fixed_of_evaluations : {E V : Type 0} (o : Operations V) (valid : V → Type 0) → FixedOfEvaluations E V o valid
 fixed_of_evaluations o valid = record {
-  evaluation = λ M biased h s P n answers unknowns last other e f.
-      both_gave (SameFixed M biased) _ _ last other (evaluated_both M biased h (over o s P n answers) unknowns) e f;
-  modules = λ t number m s P n answers unknowns last other e f.
+  evaluation = λ M biased h s P n stops answers unknowns last other e f.
+      both_gave (SameFixed M biased) _ _ last other (evaluated_both M biased h (over o s P n stops answers) unknowns) e f;
+  modules = λ t number m s P n stops answers unknowns last other e f.
       let M = module_seen t number m in
       let biased = (analysis_of (names_of_module t number m) (analog_bodies m)).biased in
-      both_gave (SameFixed M biased) _ _ last other (evaluated_both M biased (elaboration_laws.bias t number m) (over o s P n answers) unknowns) e f;
+      both_gave (SameFixed M biased) _ _ last other (evaluated_both M biased (elaboration_laws.bias t number m) (over o s P n stops answers) unknowns) e f;
 }
 
 module _ {V : Type 0} (o : Operations V) (valid unit : V → Type 0) (l : IsAlgebra o valid unit) where
-  valid_context : (s : V) (P : Point V) (n : ℕ) (answers : ℕ → V) → ContextValid valid s P answers
-      → ContextsRelated (IsValid valid) (over o s P n answers) (over o s P n answers)
-  valid_context s P n answers h = record {
+  valid_context : {E : Type 0} (s : V) (P : Point V) (n : ℕ) (stops : Reason → E) (answers : Answers E V) → ContextValid valid s P answers
+      → ContextsRelated same_ends (IsValid valid) (over o s P n stops answers) (over o s P n stops answers)
+  valid_context s P n stops answers h = record {
     ops = validity_relates o valid unit l;
     derivative = (refl, h.derivative);
     point = record {
@@ -84,8 +133,9 @@ module _ {V : Type 0} (o : Operations V) (valid unit : V → Type 0) (l : IsAlge
       temperature = (refl, h.point.temperature);
       unknowns = λ i. (refl, h.point.unknowns i);
     };
-    bound = refl;
-    answers = λ k. (refl, h.answers k);
+    bound = inl refl;
+    stops = λ reason. refl;
+    answers = h.answers;
   }
 
   valid_state : (s t : State V) → StatesRelated (IsValid valid) s t → StateValid valid s
@@ -95,13 +145,13 @@ module _ {V : Type 0} (o : Operations V) (valid unit : V → Type 0) (l : IsAlge
   valid_rows no_more = All-nil valid
   valid_rows (one_more {xs = xs} h hs) = All-cons valid _ xs h.1 (valid_rows hs)
 
-  pub validity_of_evaluations : ValidityOfEvaluations V o valid
+  pub validity_of_evaluations : {E : Type 0} → ValidityOfEvaluations E V o valid
   validity_of_evaluations = record {
-    evaluation = λ M s P n answers h last e.
-        let r = gives_related (StatesRelated (IsValid valid)) last (evaluated_related M _ _ (IsValid valid) (valid_context s P n answers h)) e in
+    evaluation = λ M s P n stops answers h last e.
+        let r = gives_related (StatesRelated (IsValid valid)) last (same_related (StatesRelated (IsValid valid)) (evaluated_related same_ends same_closed M _ _ (IsValid valid) (valid_context s P n stops answers h))) e in
         valid_state last r.0 r.2;
-    residuals = λ M s P n answers h rows e.
-        let r = gives_related (ListsRelated (IsValid valid)) rows (residuals_related M _ _ (IsValid valid) (valid_context s P n answers h)) e in
+    residuals = λ M s P n stops answers h rows e.
+        let r = gives_related (ListsRelated (IsValid valid)) rows (same_related (ListsRelated (IsValid valid)) (residuals_related same_ends same_closed M _ _ (IsValid valid) (valid_context s P n stops answers h))) e in
         valid_rows r.2;
   }
 
@@ -113,20 +163,24 @@ module _ {V : Type 0} (o : Operations V) (valid unit : V → Type 0) (l : IsAlge
     unknowns = λ i. (refl, h.unknowns i);
   }
 
-  lifted_context : (s : V) (P : Point V) (n : ℕ) (answers : ℕ → V) → ContextValid valid s P answers
-      → ContextsRelated (IsLifted o valid) (over (dual o) (lift o s) (lifted_point o P) n (λ k. lift o (answers k))) (over o s P n answers)
-  lifted_context s P n answers h = record {
+  lifted_context : {E : Type 0} (s : V) (P : Point V) (n : ℕ) (stops : Reason → E) (answers : Answers E V) (lifts : Answers E (Dual V))
+      → valid s → PointValid valid P → AnswersRelated same_ends (IsLifted o valid) lifts answers
+      → ContextsRelated same_ends (IsLifted o valid) (over (dual o) (lift o s) (lifted_point o P) n stops lifts) (over o s P n stops answers)
+  lifted_context s P n stops answers lifts d p h = record {
     ops = lifts_relate o valid unit l;
-    derivative = (refl, h.derivative);
-    point = lifted_pointwise P h.point;
-    bound = refl;
-    answers = λ k. (refl, h.answers k);
+    derivative = (refl, d);
+    point = lifted_pointwise P p;
+    bound = inl refl;
+    stops = λ reason. refl;
+    answers = h;
   }
 
-  pub lifts_of_evaluations : LiftsOfEvaluations V o valid
+  pub lifts_of_evaluations : {E : Type 0} → LiftsOfEvaluations E V o valid
   lifts_of_evaluations = record {
-    evaluation = λ M s P n answers h. evaluated_related M _ _ (IsLifted o valid) (lifted_context s P n answers h);
-    residuals = λ M s P n answers h. residuals_related M _ _ (IsLifted o valid) (lifted_context s P n answers h);
+    evaluation = λ M s P n stops answers lifts d p h.
+        same_related (StatesRelated (IsLifted o valid)) (evaluated_related same_ends same_closed M _ _ (IsLifted o valid) (lifted_context s P n stops answers lifts d p h));
+    residuals = λ M s P n stops answers lifts d p h.
+        same_related (ListsRelated (IsLifted o valid)) (residuals_related same_ends same_closed M _ _ (IsLifted o valid) (lifted_context s P n stops answers lifts d p h));
   }
 
   -- residuals in two parts, where an unknown moves and where none does
@@ -138,7 +192,7 @@ module _ {V : Type 0} (o : Operations V) (valid unit : V → Type 0) (l : IsAlge
   unknown_in_parts true x = refl
   unknown_in_parts false x = refl
 
-  moved_context : (P : Point V) (n j : ℕ) → ContextsRelated (Parts HasMain) (in_parts (dual o) (moved_point o j P) n) (in_parts o P n)
+  moved_context : (P : Point V) (n j : ℕ) → ContextsRelated same_ends (Parts HasMain) (in_parts (dual o) (moved_point o j P) n) (in_parts o P n)
   moved_context P n j = record {
     ops = duals_related (dual o) o HasMain (mains_relate o);
     derivative = (refl, refl);
@@ -148,8 +202,9 @@ module _ {V : Type 0} (o : Operations V) (valid unit : V → Type 0) (l : IsAlge
       temperature = (refl, refl);
       unknowns = λ i. (unknown_in_parts (i == j) (P.unknowns i), refl);
     };
-    bound = refl;
-    answers = λ k. (refl, refl);
+    bound = inl refl;
+    stops = λ reason. refl;
+    answers = λ k outs outs' h. both_give (refl, refl);
   }
 
   lifted_number_in_parts : (v : Number V) → NumberValid valid v
@@ -158,7 +213,7 @@ module _ {V : Type 0} (o : Operations V) (valid unit : V → Type 0) (l : IsAlge
   lifted_number_in_parts (Int i) h = integers
 
   resting_context : (P : Point V) (n : ℕ) → PointValid valid P
-      → ContextsRelated (Parts (IsLifted o valid)) (in_parts (dual o) (lifted_point o P) n) (in_parts o P n)
+      → ContextsRelated same_ends (Parts (IsLifted o valid)) (in_parts (dual o) (lifted_point o P) n) (in_parts o P n)
   resting_context P n h = record {
     ops = duals_related (dual o) o (IsLifted o valid) (lifts_relate o valid unit l);
     derivative = ((refl, l.valid_zero), (refl, l.valid_one));
@@ -168,12 +223,13 @@ module _ {V : Type 0} (o : Operations V) (valid unit : V → Type 0) (l : IsAlge
       temperature = ((refl, h.temperature), (refl, l.valid_zero));
       unknowns = λ i. ((refl, h.unknowns i), (refl, l.valid_zero));
     };
-    bound = refl;
-    answers = λ k. ((refl, l.valid_zero), (refl, l.valid_zero));
+    bound = inl refl;
+    stops = λ reason. refl;
+    answers = λ k outs outs' h. both_give ((refl, l.valid_zero), (refl, l.valid_zero));
   }
 
   pub mains_of_parts : MainsOfParts V o valid
   mains_of_parts = record {
-    residuals = λ M P n j. residuals_related M _ _ (Parts HasMain) (moved_context P n j);
-    lifted = λ M P n h. residuals_related M _ _ (Parts (IsLifted o valid)) (resting_context P n h);
+    residuals = λ M P n j. same_related (ListsRelated (Parts HasMain)) (residuals_related same_ends same_closed M _ _ (Parts HasMain) (moved_context P n j));
+    lifted = λ M P n h. same_related (ListsRelated (Parts (IsLifted o valid))) (residuals_related same_ends same_closed M _ _ (Parts (IsLifted o valid)) (resting_context P n h));
   }

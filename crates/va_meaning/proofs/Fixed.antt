@@ -3,7 +3,6 @@ use Rattle.std.specs.Prelude.{◌≡◌, ℕ, ◌+◌, ◌==◌, ◌||◌, Bool,
 use Rattle.std.proofs.Common.{refl, ap, sym, ◌∙◌, subst}
 use Rattle.std.proofs.lemmas.Map.Views.{exact_unsigned_eq}
 use Rattle.alg_laws.specs.declared.number.Number.{Number}
-use Rattle.alg_laws.specs.declared.number.Reason.{Reason}
 use Rattle.alg_laws.specs.declared.number.Reason.TheVariants.{Turns}
 use Rattle.alg_laws.specs.Loop.{turns, while_turns}
 use Rattle.alg_laws.specs.NumberOps.{joined, converted, to_integer, is_true, is_same}
@@ -19,9 +18,9 @@ use Rattle.va_meaning.specs.Bias.{IsCallFixed, IsNameFixed, IsFixed, AreFixed, I
 use Rattle.va_meaning.specs.Called.{Called, builtin, system, function, access, none, called}
 use Rattle.va_meaning.specs.Elaborated.{Elaborated}
 use Rattle.va_meaning.specs.Evaluation.{zeros, started, initialised, run_blocks, functions, evaluated}
-use Rattle.va_meaning.specs.Points.{Context, Store, State, with_variable, at_unknowns, without_unknowns}
+use Rattle.va_meaning.specs.Points.{Context, Result, Store, State, with_variable, at_unknowns, without_unknowns, told}
 use Rattle.va_meaning.specs.Runs.{quantity_of, marked, statement_size, items_size, under, under_all, item_values, Counted, turns_left, count_down, repeated, test_of, assigned, assign_value, contributed, is_among, run, run_all, run_case, run_default}
-use Rattle.va_meaning.specs.Values.{Functions, Result, size, argument, unary_value, binary_value, named, builtin_value, system_value, call_value, value_of, outcomes_of, no_value}
+use Rattle.va_meaning.specs.Values.{Functions, size, argument, unary_value, binary_value, named, builtin_value, system_value, call_value, value_of, outcomes_of, no_value}
 use Rattle.va_meaning.proofs.Partial.{IfGives, BothGive, anything, then_if, then_both, after_same, both_from, chosen_if, chosen_both, turns_if, turns_both, while_if, while_both}
 
 -- tests of two flags
@@ -61,7 +60,7 @@ module _ {V : Type 0} (M : Elaborated) (biased : ℕ → Bool) where
   same_both s t s' t' h k l = same_then s' s t' (same_back s s' k) (same_then s t t' h l)
 
 -- One evaluation: what stands under a biased condition leaves fixed variables and marks.
-module _ {V : Type 0} (M : Elaborated) (biased : ℕ → Bool) (c : Context V) (F : Functions V) (r : State V) where
+module _ {E V : Type 0} (M : Elaborated) (biased : ℕ → Bool) (c : Context E V) (F : Functions E V) (r : State V) where
   set_keeps : (x : ℕ) → biased x ≡ true → (w : Number V) (s : State V) → SameFixed M biased r s
       → SameFixed M biased r (record s { variables = with_variable s.variables x w })
   set_keeps x e w s k = record {
@@ -72,7 +71,7 @@ module _ {V : Type 0} (M : Elaborated) (biased : ℕ → Bool) (c : Context V) (
   assigned_keeps : (m : Option Meaning) (b : Bool) → b ≡ true → AssignmentKeeps M biased b m → (v : Number V) (s : State V) → SameFixed M biased r s
       → IfGives (SameFixed M biased r) (assigned M c F m v s)
   assigned_keeps (Some (Var x)) b e h v s k =
-      then_if (λ (w : Number V). Unit {0}) (SameFixed M biased r) (converted c.ops (M.variable_type x) v) _ (anything (converted c.ops (M.variable_type x) v))
+      then_if (λ (w : Number V). Unit {0}) (SameFixed M biased r) (told c (converted c.ops (M.variable_type x) v)) _ (anything (told c (converted c.ops (M.variable_type x) v)))
       (λ w i. set_keeps x (h e) w s k)
   assigned_keeps m b e h v s k = k
 
@@ -108,13 +107,13 @@ module _ {V : Type 0} (M : Elaborated) (biased : ℕ → Bool) (c : Context V) (
   contribution_keeps true e m h v s k = contributed_keeps m h v s k
   contribution_keeps false e m h v s k = cc (e)
 
-  repeated_keeps : (n : ℕ) (i : ℤ) (turn : State V → Outcome Reason (State V))
+  repeated_keeps : (n : ℕ) (i : ℤ) (turn : State V → Outcome E (State V))
       → ((s : State V) → SameFixed M biased r s → IfGives (SameFixed M biased r) (turn s)) → (s : State V) → SameFixed M biased r s
-      → IfGives (SameFixed M biased r) (repeated Turns n i turn s)
+      → IfGives (SameFixed M biased r) (repeated (c.stops Turns) n i turn s)
   repeated_keeps n i turn h s k =
       let Q = λ (at : Counted (State V)). SameFixed M biased r at.state in
-      then_if Q (SameFixed M biased r) (turns Turns gives turns_left (count_down turn) n (record { left = i; state = s })) _
-      (turns_if Q Q Turns gives turns_left (count_down turn) (λ at q. q)
+      then_if Q (SameFixed M biased r) (turns (c.stops Turns) gives turns_left (count_down turn) n (record { left = i; state = s })) _
+      (turns_if Q Q (c.stops Turns) gives turns_left (count_down turn) (λ at q. q)
       (λ at q. then_if (SameFixed M biased r) Q (turn at.state) _ (h at.state q) (λ t p. p)) n _ k)
       (λ at q. q)
 
@@ -142,15 +141,15 @@ module _ {V : Type 0} (M : Elaborated) (biased : ℕ → Bool) (c : Context V) (
         let below = still_true b (M.is_biased test) e in
         then_if (SameFixed M biased r) (SameFixed M biased r) (assign_value M c F (M.meaning target.at) place first s) _
         (assign_keeps (M.meaning target.at) (under M b test || M.is_biased first) (still_true (under M b test) (M.is_biased first) below) h.0 place first s k)
-        (λ s k. while_if (SameFixed M biased r) Turns _ _
+        (λ s k. while_if (SameFixed M biased r) (c.stops Turns) _ _
         (λ s k. then_if (SameFixed M biased r) (SameFixed M biased r) (run M c F (under M b test) (place + size first + size test + size step) body s) _
         (run_keeps (under M b test) below _ body h.2 s k)
         (λ s k. assign_keeps (M.meaning target'.at) (under M b test || M.is_biased step) (still_true (under M b test) (M.is_biased step) below) h.1 _ step s k)) c.bound s k)
     run_keeps b e place (while_loop at test body) h s k =
-        while_if (SameFixed M biased r) Turns _ _ (λ s k. run_keeps (under M b test) (still_true b (M.is_biased test) e) _ body h s k) c.bound s k
+        while_if (SameFixed M biased r) (c.stops Turns) _ _ (λ s k. run_keeps (under M b test) (still_true b (M.is_biased test) e) _ body h s k) c.bound s k
     run_keeps b e place (repeat_loop at count body) h s k =
         then_if (λ (v : Number V). Unit {0}) (SameFixed M biased r) (value_of M c F place count s.variables) _ (anything (value_of M c F place count s.variables))
-        (λ v i. then_if (λ (z : ℤ). Unit {0}) (SameFixed M biased r) (to_integer c.ops v) _ (anything (to_integer c.ops v))
+        (λ v i. then_if (λ (z : ℤ). Unit {0}) (SameFixed M biased r) (told c (to_integer c.ops v)) _ (anything (told c (to_integer c.ops v)))
         (λ z i. repeated_keeps c.bound z _ (λ s k. run_keeps (under M b count) (still_true b (M.is_biased count) e) _ body h s k) s k))
     run_keeps b e place (event at InitialStep analyses body) h s k = run_keeps b e place body h s k
     run_keeps b e place (event at FinalStep analyses body) h s k = k
@@ -168,7 +167,7 @@ module _ {V : Type 0} (M : Elaborated) (biased : ℕ → Bool) (c : Context V) (
         then_if (SameFixed M biased r) (SameFixed M biased r) (run M c F b place p s) _ (run_keeps b e place p h.0 s k) (λ s k. run_all_keeps b e _ ps h.1 s k)
 
     run_case_keeps : (b : Bool) → b ≡ true → (place : ℕ) (v : Number V) (items : Items) → ItemsKeep M biased b items
-        → (otherwise : State V → Outcome Reason (State V)) → ((s : State V) → SameFixed M biased r s → IfGives (SameFixed M biased r) (otherwise s))
+        → (otherwise : State V → Outcome E (State V)) → ((s : State V) → SameFixed M biased r s → IfGives (SameFixed M biased r) (otherwise s))
         → (s : State V) → SameFixed M biased r s → IfGives (SameFixed M biased r) (run_case M c F b place v items otherwise s)
     run_case_keeps b e place v no_items h otherwise o s k = o s k
     run_case_keeps b e place v (item_then at values body rest) h otherwise o s k =
@@ -189,15 +188,15 @@ module _ {V : Type 0} (M : Elaborated) (biased : ℕ → Bool) (c : Context V) (
       (λ s k. assign_keeps m (b || M.is_biased step) (still_true b (M.is_biased step) e) l ahead step s k)
 
 -- Two evaluations at points that differ in unknowns alone.
-module _ {V : Type 0} (M : Elaborated) (biased : ℕ → Bool) (fixed : (e : Expression) → M.is_biased e ≡ false → IsFixed M biased e)
-    (c : Context V) (u : ℕ → V) (F G : Functions V) (fs : (f : ℕ) (outs : List (Result V)) → F f outs ≡ G f outs) where
+module _ {E V : Type 0} (M : Elaborated) (biased : ℕ → Bool) (fixed : (e : Expression) → M.is_biased e ≡ false → IsFixed M biased e)
+    (c : Context E V) (u : ℕ → V) (F G : Functions E V) (fs : (f : ℕ) (outs : List (Result E V)) → F f outs ≡ G f outs) where
   named_fixed : (m : Option Meaning) (s t : Store V) → IsNameFixed M biased m → ((x : ℕ) → biased x ≡ false → s x ≡ t x)
       → named M c s m ≡ named M (at_unknowns c u) t m
   named_fixed (Some (Param p)) s t h k = refl
   named_fixed (Some (Var x)) s t h k = k x h
   named_fixed m s t h k = refl
 
-  call_fixed : (what : Called) (place : ℕ) (args : Arguments) (outs outs' : List (Result V)) (A B : Type 0)
+  call_fixed : (what : Called) (place : ℕ) (args : Arguments) (outs outs' : List (Result E V)) (A B : Type 0)
       → (A → argument c.ops 0 outs ≡ argument c.ops 0 outs') → (B → outs ≡ outs') → IsCallFixed what A B
       → call_value M c F what place args outs ≡ call_value M (at_unknowns c u) G what place args outs'
   call_fixed (builtin b) place args outs outs' A B first all h = λ j. builtin_value M c b place (all h j)
@@ -217,13 +216,13 @@ module _ {V : Type 0} (M : Elaborated) (biased : ℕ → Bool) (fixed : (e : Exp
     value_fixed place (infinity at) s t h k = refl
     value_fixed place (name at bytes) s t h k = λ j. gives (named_fixed (M.meaning at) s t h k j)
     value_fixed place (group at inner) s t h k = value_fixed (place + 1) inner s t h k
-    value_fixed place (unary at op operand) s t h k = λ j. value_fixed (place + 1) operand s t h k j >>= unary_value c.ops op
+    value_fixed place (unary at op operand) s t h k = λ j. value_fixed (place + 1) operand s t h k j >>= unary_value c op
     value_fixed place (binary at left op right) s t h k = λ j.
-        value_fixed (place + 1) left s t h.0 k j >>= λ v. binary_value c.ops op v (value_fixed (place + 1 + size left) right s t h.1 k j)
+        value_fixed (place + 1) left s t h.0 k j >>= λ v. binary_value c op v (value_fixed (place + 1 + size left) right s t h.1 k j)
     value_fixed place (choose at test a b) s t h k = λ j.
         value_fixed (place + 1) test s t h.0 k j
         >>= λ x. (if is_true c.ops x then value_fixed (place + 1 + size test) a s t h.1 k j else value_fixed (place + 1 + size test + size a) b s t h.2 k j)
-        >>= converted c.ops (joined (M.type_of a) (M.type_of b))
+        >>= λ v. told c (converted c.ops (joined (M.type_of a) (M.type_of b)) v)
     value_fixed place (call at callee bytes args) s t h k =
         call_fixed (called (M.meaning at) callee bytes) place args _ _ (IsFirstFixed M biased args) (AreFixed M biased args)
         (λ h. first_fixed (place + 1) args s t h k) (λ h. outcomes_fixed (place + 1) args s t h k) h
@@ -278,7 +277,7 @@ module _ {V : Type 0} (M : Elaborated) (biased : ℕ → Bool) (fixed : (e : Exp
   items_fixed b e es h = (all_fixed b (e ∷ es) h).1.1
 
   -- What follows a condition: where it is fixed, the same on both sides; where it is biased, what leaves fixed variables and marks.
-  choice_both : {A : Type 0} (b : Bool) (x y : Outcome Reason A) (f g : A → Outcome Reason (State V)) (s t : State V)
+  choice_both : {A : Type 0} (b : Bool) (x y : Outcome E A) (f g : A → Outcome E (State V)) (s t : State V)
       → (b ≡ false → x ≡ y) → (b ≡ false → (v : A) → BothGive (SameFixed M biased) (f v) (g v))
       → (b ≡ true → (v : A) → IfGives (SameFixed M biased s) (f v)) → (b ≡ true → (v : A) → IfGives (SameFixed M biased t) (g v))
       → SameFixed M biased s t → BothGive (SameFixed M biased) (x >>= f) (y >>= g)
@@ -299,7 +298,7 @@ module _ {V : Type 0} (M : Elaborated) (biased : ℕ → Bool) (fixed : (e : Exp
   assigned_same : (m : Option Meaning) (v : Number V) (s t : State V) → SameFixed M biased s t
       → BothGive (SameFixed M biased) (assigned M c F m v s) (assigned M (at_unknowns c u) G m v t)
   assigned_same (Some (Var x)) v s t k =
-      after_same (SameFixed M biased) (converted c.ops (M.variable_type x) v) _ _ _ refl (λ w. set_same x true w s t k)
+      after_same (SameFixed M biased) (told c (converted c.ops (M.variable_type x) v)) _ _ _ refl (λ w. set_same x true w s t k)
   assigned_same m v s t k = k
 
   assign_both : (m : Option Meaning) (b : Bool) (place : ℕ) (e : Expression) → AssignmentKeeps M biased (b || M.is_biased e) m
@@ -324,49 +323,49 @@ module _ {V : Type 0} (M : Elaborated) (biased : ℕ → Bool) (fixed : (e : Exp
       marks_same same flow b m n e = λ j. if same then marked (quantity_of flow) b (e j) else e j
   contributed_both m b v w s t k = k
 
-  repeated_both : (n : ℕ) (i : ℤ) (turn turn' : State V → Outcome Reason (State V))
+  repeated_both : (n : ℕ) (i : ℤ) (turn turn' : State V → Outcome E (State V))
       → ((s t : State V) → SameFixed M biased s t → BothGive (SameFixed M biased) (turn s) (turn' t)) → (s t : State V) → SameFixed M biased s t
-      → BothGive (SameFixed M biased) (repeated Turns n i turn s) (repeated Turns n i turn' t)
+      → BothGive (SameFixed M biased) (repeated (c.stops Turns) n i turn s) (repeated (c.stops Turns) n i turn' t)
   repeated_both n i turn turn' h s t k =
       let Q = λ (a b : Counted (State V)). (a.left ≡ b.left) × SameFixed M biased a.state b.state in
-      then_both Q (SameFixed M biased) (turns Turns gives turns_left (count_down turn) n (record { left = i; state = s }))
-      (turns Turns gives turns_left (count_down turn') n (record { left = i; state = t })) _ _
-      (turns_both Q Q Turns gives gives turns_left turns_left (count_down turn) (count_down turn') (λ a b q. q) (λ a b q. ap (int_lt (pos 0)) q.0)
+      then_both Q (SameFixed M biased) (turns (c.stops Turns) gives turns_left (count_down turn) n (record { left = i; state = s }))
+      (turns (c.stops Turns) gives turns_left (count_down turn') n (record { left = i; state = t })) _ _
+      (turns_both Q Q (c.stops Turns) gives gives turns_left turns_left (count_down turn) (count_down turn') (λ a b q. q) (λ a b q. ap (int_lt (pos 0)) q.0)
       (λ a b q. then_both (SameFixed M biased) Q (turn a.state) (turn' b.state) _ _ (h a.state b.state q.1) (λ x y p. (ap (λ z. z -ℤ pos 1) q.0, p))) n _ _ (refl, k))
       (λ a b q. q.1)
 
   -- loops with a condition
-  looped : (b : Bool) (test test' : State V → Outcome Reason Bool) (turn turn' : State V → Outcome Reason (State V))
+  looped : (b : Bool) (test test' : State V → Outcome E Bool) (turn turn' : State V → Outcome E (State V))
       → (b ≡ false → (s t : State V) → SameFixed M biased s t → test s ≡ test' t)
       → (b ≡ false → (s t : State V) → SameFixed M biased s t → BothGive (SameFixed M biased) (turn s) (turn' t))
       → (b ≡ true → (r s : State V) → SameFixed M biased r s → IfGives (SameFixed M biased r) (turn s))
       → (b ≡ true → (r s : State V) → SameFixed M biased r s → IfGives (SameFixed M biased r) (turn' s))
       → (s t : State V) → SameFixed M biased s t
-      → BothGive (SameFixed M biased) (while_turns Turns test turn c.bound s) (while_turns Turns test' turn' c.bound t)
+      → BothGive (SameFixed M biased) (while_turns (c.stops Turns) test turn c.bound s) (while_turns (c.stops Turns) test' turn' c.bound t)
   looped true test test' turn turn' e h k l s t same =
-      both_from (SameFixed M biased s) (SameFixed M biased t) (SameFixed M biased) (while_turns Turns test turn c.bound s) (while_turns Turns test' turn' c.bound t)
-      (while_if (SameFixed M biased s) Turns test turn (λ x q. k refl s x q) c.bound s (same_itself M biased s))
-      (while_if (SameFixed M biased t) Turns test' turn' (λ x q. l refl t x q) c.bound t (same_itself M biased t))
+      both_from (SameFixed M biased s) (SameFixed M biased t) (SameFixed M biased) (while_turns (c.stops Turns) test turn c.bound s) (while_turns (c.stops Turns) test' turn' c.bound t)
+      (while_if (SameFixed M biased s) (c.stops Turns) test turn (λ x q. k refl s x q) c.bound s (same_itself M biased s))
+      (while_if (SameFixed M biased t) (c.stops Turns) test' turn' (λ x q. l refl t x q) c.bound t (same_itself M biased t))
       (λ s' t' p q. same_both M biased s t s' t' same p q)
-  looped false test test' turn turn' e h k l s t same = while_both (SameFixed M biased) Turns test test' turn turn' (e refl) (h refl) c.bound s t same
+  looped false test test' turn turn' e h k l s t same = while_both (SameFixed M biased) (c.stops Turns) test test' turn turn' (e refl) (h refl) c.bound s t same
 
   -- `repeat` with a count that is the same on both sides, or biased
-  counted_both : (b : Bool) (place : ℕ) (count : Expression) (turn turn' : State V → Outcome Reason (State V))
+  counted_both : (b : Bool) (place : ℕ) (count : Expression) (turn turn' : State V → Outcome E (State V))
       → ((s t : State V) → SameFixed M biased s t → BothGive (SameFixed M biased) (turn s) (turn' t))
       → (under M b count ≡ true → (r s : State V) → SameFixed M biased r s → IfGives (SameFixed M biased r) (turn s))
       → (under M b count ≡ true → (r s : State V) → SameFixed M biased r s → IfGives (SameFixed M biased r) (turn' s))
       → (s t : State V) → SameFixed M biased s t
-      → BothGive (SameFixed M biased) (value_of M c F place count s.variables >>= λ v. to_integer c.ops v >>= λ z. repeated Turns c.bound z turn s)
-      (value_of M (at_unknowns c u) G place count t.variables >>= λ v. to_integer c.ops v >>= λ z. repeated Turns c.bound z turn' t)
+      → BothGive (SameFixed M biased) (value_of M c F place count s.variables >>= λ v. told c (to_integer c.ops v) >>= λ z. repeated (c.stops Turns) c.bound z turn s)
+      (value_of M (at_unknowns c u) G place count t.variables >>= λ v. told c (to_integer c.ops v) >>= λ z. repeated (c.stops Turns) c.bound z turn' t)
   counted_both b place count turn turn' h l m s t k =
       choice_both (under M b count) (value_of M c F place count s.variables) (value_of M (at_unknowns c u) G place count t.variables)
-      (λ v. to_integer c.ops v >>= λ z. repeated Turns c.bound z turn s) (λ v. to_integer c.ops v >>= λ z. repeated Turns c.bound z turn' t) s t
+      (λ v. told c (to_integer c.ops v) >>= λ z. repeated (c.stops Turns) c.bound z turn s) (λ v. told c (to_integer c.ops v) >>= λ z. repeated (c.stops Turns) c.bound z turn' t) s t
       (λ e. value_fixed place count s.variables t.variables (fixed count (second_false b (M.is_biased count) e)) k.variables)
-      (λ e v. after_same (SameFixed M biased) (to_integer c.ops v) (to_integer c.ops v) (λ z. repeated Turns c.bound z turn s) (λ z. repeated Turns c.bound z turn' t) refl
+      (λ e v. after_same (SameFixed M biased) (told c (to_integer c.ops v)) (told c (to_integer c.ops v)) (λ z. repeated (c.stops Turns) c.bound z turn s) (λ z. repeated (c.stops Turns) c.bound z turn' t) refl
       (λ z. repeated_both c.bound z turn turn' h s t k))
-      (λ e v. then_if (λ (z : ℤ). Unit {0}) (SameFixed M biased s) (to_integer c.ops v) (λ z. repeated Turns c.bound z turn s) (anything (to_integer c.ops v))
+      (λ e v. then_if (λ (z : ℤ). Unit {0}) (SameFixed M biased s) (told c (to_integer c.ops v)) (λ z. repeated (c.stops Turns) c.bound z turn s) (anything (told c (to_integer c.ops v)))
       (λ z i. repeated_keeps M biased c F s c.bound z turn (λ r k. l e s r k) s (same_itself M biased s)))
-      (λ e v. then_if (λ (z : ℤ). Unit {0}) (SameFixed M biased t) (to_integer c.ops v) (λ z. repeated Turns c.bound z turn' t) (anything (to_integer c.ops v))
+      (λ e v. then_if (λ (z : ℤ). Unit {0}) (SameFixed M biased t) (told c (to_integer c.ops v)) (λ z. repeated (c.stops Turns) c.bound z turn' t) (anything (told c (to_integer c.ops v)))
       (λ z i. repeated_keeps M biased (at_unknowns c u) G t c.bound z turn' (λ r k. m e t r k) t (same_itself M biased t))) k
 
   mutual
@@ -408,9 +407,9 @@ module _ {V : Type 0} (M : Elaborated) (biased : ℕ → Bool) (fixed : (e : Exp
         let ahead = place + size first + size test in
         then_both (SameFixed M biased) (SameFixed M biased)
         (assign_value M c F (M.meaning target.at) place first s) (assign_value M (at_unknowns c u) G (M.meaning target.at) place first t)
-        (while_turns Turns (test_of M c F (place + size first) test)
+        (while_turns (c.stops Turns) (test_of M c F (place + size first) test)
         (λ r. run M c F below inner body r >>= assign_value M c F (M.meaning target'.at) ahead step) c.bound)
-        (while_turns Turns (test_of M (at_unknowns c u) G (place + size first) test)
+        (while_turns (c.stops Turns) (test_of M (at_unknowns c u) G (place + size first) test)
         (λ r. run M (at_unknowns c u) G below inner body r >>= assign_value M (at_unknowns c u) G (M.meaning target'.at) ahead step) c.bound)
         (assign_both (M.meaning target.at) below place first h.0 s t k)
         (looped below (test_of M c F (place + size first) test) (test_of M (at_unknowns c u) G (place + size first) test)
@@ -453,7 +452,7 @@ module _ {V : Type 0} (M : Elaborated) (biased : ℕ → Bool) (fixed : (e : Exp
         (run_both b place p h.0 s t k) (λ s t k. run_all_both b _ ps h.1 s t k)
 
     run_case_both : (b : Bool) (place : ℕ) (v : Number V) (items : Items) → ItemsKeep M biased b items → (b ≡ false → AllFixed (item_values items))
-        → (otherwise otherwise' : State V → Outcome Reason (State V))
+        → (otherwise otherwise' : State V → Outcome E (State V))
         → ((s t : State V) → SameFixed M biased s t → BothGive (SameFixed M biased) (otherwise s) (otherwise' t))
         → (b ≡ true → (r s : State V) → SameFixed M biased r s → IfGives (SameFixed M biased r) (otherwise s))
         → (b ≡ true → (r s : State V) → SameFixed M biased r s → IfGives (SameFixed M biased r) (otherwise' s))
@@ -482,7 +481,7 @@ module _ {V : Type 0} (M : Elaborated) (biased : ℕ → Bool) (fixed : (e : Exp
       then_both (SameFixed M biased) (SameFixed M biased) (run M c F false place p s) (run M (at_unknowns c u) G false place p t) _ _
       (run_both false place p h.0 s t k) (λ s t k. blocks_both (place + statement_size p) ps h.1 s t k)
 
-pub evaluated_both : {V : Type 0} (M : Elaborated) (biased : ℕ → Bool) → KeepsToBias M biased → (c : Context V) (u : ℕ → V)
+pub evaluated_both : {E V : Type 0} (M : Elaborated) (biased : ℕ → Bool) → KeepsToBias M biased → (c : Context E V) (u : ℕ → V)
     → BothGive (SameFixed M biased) (evaluated M c) (evaluated M (at_unknowns c u))
 evaluated_both M biased h c u =
     let F = functions M c in

@@ -4,7 +4,6 @@ use Rattle.std.specs.Prelude.{◌≡◌, ℕ, ◌+◌, ◌==◌, Bool, true, fal
 use Rattle.std.proofs.Common.{refl, sym, subst}
 use Rattle.std.proofs.lemmas.Map.Views.{exact_unsigned_eq}
 use Rattle.alg_laws.specs.declared.number.Number.{Number}
-use Rattle.alg_laws.specs.declared.number.Reason.{Reason}
 use Rattle.alg_laws.specs.declared.number.Reason.TheVariants.{Turns}
 use Rattle.alg_laws.specs.Loop.{turns}
 use Rattle.alg_laws.specs.NumberOps.{joined, converted, is_true, to_real, to_integer}
@@ -20,14 +19,14 @@ use Rattle.va_tree.specs.Statements.{Statement, Statements, Items, Defaults, nul
 use Rattle.va_meaning.specs.Called.{called}
 use Rattle.va_meaning.specs.Elaborated.{Elaborated, Initialiser}
 use Rattle.va_meaning.specs.Evaluation.{initialised, run_blocks}
-use Rattle.va_meaning.specs.Points.{Context, Store, State, Held, with_variable, held_of}
+use Rattle.va_meaning.specs.Points.{Context, Result, Store, State, Held, with_variable, held_of, told}
 use Rattle.va_meaning.specs.Runs.{statement_size, quantity_of, Counted, turns_left, count_down, repeated, test_of, assigned, assign_value, contributed, is_among, run, run_all, run_case, run_default}
 use Rattle.va_meaning.specs.Unknowns.{signed}
-use Rattle.va_meaning.specs.Values.{Functions, Result, size, no_value, numeral, unary_value, binary_value, named, call_value, value_of, outcomes_of}
+use Rattle.va_meaning.specs.Values.{Functions, size, no_value, numeral, unary_value, binary_value, named, call_value, value_of, outcomes_of}
 use Rattle.va_meaning.proofs.Partial.{IfGives, anything, then_if, chosen_if, turns_if, while_if}
 
 -- Q is kept of expressions' values, S of variables, H of what branches hold of a quantity.
-module _ {V : Type 0} (M : Elaborated) (c : Context V) (F : Functions V) (Q : Expression → Number V → Type 0) (S : ℕ → Number V → Type 0)
+module _ {E V : Type 0} (M : Elaborated) (c : Context E V) (F : Functions E V) (Q : Expression → Number V → Type 0) (S : ℕ → Number V → Type 0)
     (H : ℕ → Quantity → V → Type 0) where
   abbrev pub StoreKept : Store V → Type 0
   StoreKept vars = (x : ℕ) → S x (vars x)
@@ -37,7 +36,7 @@ module _ {V : Type 0} (M : Elaborated) (c : Context V) (F : Functions V) (Q : Ex
     pub held : (b : ℕ) → H b (s.held b).quantity (s.held b).sum
 
   -- of arguments, for those places that pass a test
-  abbrev pub ArgumentsKept : (ℕ → Bool) → ℕ → Arguments → List (Result V) → Type 0
+  abbrev pub ArgumentsKept : (ℕ → Bool) → ℕ → Arguments → List (Result E V) → Type 0
   ArgumentsKept test i no_more outs = Unit {0}
   ArgumentsKept test i (text_then text rest) [] = Unit {0}
   ArgumentsKept test i (text_then text rest) (out ∷ outs) = ArgumentsKept test (i + 1) rest outs
@@ -50,14 +49,14 @@ module _ {V : Type 0} (M : Elaborated) (c : Context V) (F : Functions V) (Q : Ex
   Keeps (infinity at) = Q (infinity at) (no_value c.ops)
   Keeps (name at bytes) = (vars : Store V) → ((x : ℕ) → S x (vars x)) → Q (name at bytes) (named M c vars (M.meaning at))
   Keeps (group at inner) = (v : Number V) → Q inner v → Q (group at inner) v
-  Keeps (unary at op operand) = (v : Number V) → Q operand v → IfGives (Q (unary at op operand)) (unary_value c.ops op v)
+  Keeps (unary at op operand) = (v : Number V) → Q operand v → IfGives (Q (unary at op operand)) (unary_value c op v)
   Keeps (binary at left op right) =
-      (v : Number V) (w : Result V) → Q left v → IfGives (Q right) w → IfGives (Q (binary at left op right)) (binary_value c.ops op v w)
+      (v : Number V) (w : Result E V) → Q left v → IfGives (Q right) w → IfGives (Q (binary at left op right)) (binary_value c op v w)
   Keeps (choose at test a b) =
-      ((v : Number V) → Q a v → IfGives (Q (choose at test a b)) (converted c.ops (joined (M.type_of a) (M.type_of b)) v))
-      × ((v : Number V) → Q b v → IfGives (Q (choose at test a b)) (converted c.ops (joined (M.type_of a) (M.type_of b)) v))
+      ((v : Number V) → Q a v → IfGives (Q (choose at test a b)) (told c (converted c.ops (joined (M.type_of a) (M.type_of b)) v)))
+      × ((v : Number V) → Q b v → IfGives (Q (choose at test a b)) (told c (converted c.ops (joined (M.type_of a) (M.type_of b)) v)))
   Keeps (call at callee bytes args) =
-      (place : ℕ) (outs : List (Result V)) → ArgumentsKept (call_looks callee bytes) 0 args outs
+      (place : ℕ) (outs : List (Result E V)) → ArgumentsKept (call_looks callee bytes) 0 args outs
       → IfGives (Q (call at callee bytes args)) (call_value M c F (called (M.meaning at) callee bytes) place args outs)
 
   abbrev pub AllKeep : List Expression → Type 0
@@ -75,7 +74,7 @@ module _ {V : Type 0} (M : Elaborated) (c : Context V) (F : Functions V) (Q : Ex
     value_kept place (name at bytes) vars h k = h.0 vars k
     value_kept place (group at inner) vars h k = then_gives (value_of M c F (place + 1) inner vars) (value_kept (place + 1) inner vars h.1 k) h.0
       where
-        then_gives : (out : Result V) → IfGives (Q inner) out → ((v : Number V) → Q inner v → Q (group at inner) v) → IfGives (Q (group at inner)) out
+        then_gives : (out : Result E V) → IfGives (Q inner) out → ((v : Number V) → Q inner v → Q (group at inner) v) → IfGives (Q (group at inner)) out
         then_gives (gives v) p q = q v p
         then_gives (ends e) p q = tt
     value_kept place (unary at op operand) vars h k =
@@ -90,10 +89,10 @@ module _ {V : Type 0} (M : Elaborated) (c : Context V) (F : Functions V) (Q : Ex
         then_if (λ (v : Number V). Unit {0}) (Q (choose at test a b)) (value_of M c F (place + 1) test vars) _ (anything (value_of M c F (place + 1) test vars))
         (λ t i. arm (is_true c.ops t) _ _ (value_kept (place + 1 + size test) a vars first.1 k) (value_kept (place + 1 + size test + size a) b vars parts.1 k))
       where
-        arm : (t : Bool) (x y : Result V) → IfGives (Q a) x → IfGives (Q b) y
-            → IfGives (Q (choose at test a b)) ((if t then x else y) >>= converted c.ops (joined (M.type_of a) (M.type_of b)))
-        arm true x y p q = then_if (Q a) (Q (choose at test a b)) x (converted c.ops (joined (M.type_of a) (M.type_of b))) p h.0.0
-        arm false x y p q = then_if (Q b) (Q (choose at test a b)) y (converted c.ops (joined (M.type_of a) (M.type_of b))) q h.0.1
+        arm : (t : Bool) (x y : Result E V) → IfGives (Q a) x → IfGives (Q b) y
+            → IfGives (Q (choose at test a b)) ((if t then x else y) >>= λ v. told c (converted c.ops (joined (M.type_of a) (M.type_of b)) v))
+        arm true x y p q = then_if (Q a) (Q (choose at test a b)) x (λ v. told c (converted c.ops (joined (M.type_of a) (M.type_of b)) v)) p h.0.0
+        arm false x y p q = then_if (Q b) (Q (choose at test a b)) y (λ v. told c (converted c.ops (joined (M.type_of a) (M.type_of b)) v)) q h.0.1
     value_kept place (call at callee bytes args) vars h k =
         h.0 place (outcomes_of M c F (place + 1) args vars) (arguments_kept (call_looks callee bytes) 0 (place + 1) args vars h.1 k)
 
@@ -109,7 +108,7 @@ module _ {V : Type 0} (M : Elaborated) (c : Context V) (F : Functions V) (Q : Ex
 
   -- an assignment keeps it, and a contribution
   abbrev pub AssignmentKeeps : Option Meaning → Expression → Type 0
-  AssignmentKeeps (Some (Var x)) e = (v : Number V) → Q e v → IfGives (S x) (converted c.ops (M.variable_type x) v)
+  AssignmentKeeps (Some (Var x)) e = (v : Number V) → Q e v → IfGives (S x) (told c (converted c.ops (M.variable_type x) v))
   AssignmentKeeps m e = Unit {0}
 
   abbrev pub ContributionKeeps : Option Meaning → Expression → Type 0
@@ -158,7 +157,7 @@ module _ {V : Type 0} (M : Elaborated) (c : Context V) (F : Functions V) (Q : Ex
   assigned_kept : (m : Option Meaning) (e : Expression) → AssignmentKeeps m e → (v : Number V) → Q e v → (s : State V) → StateKept s
       → IfGives StateKept (assigned M c F m v s)
   assigned_kept (Some (Var x)) e h v q s k =
-      then_if (S x) StateKept (converted c.ops (M.variable_type x) v) _ (h v q) (λ w p. record { variables = set_kept x w s.variables p k.variables; held = k.held })
+      then_if (S x) StateKept (told c (converted c.ops (M.variable_type x) v)) _ (h v q) (λ w p. record { variables = set_kept x w s.variables p k.variables; held = k.held })
   assigned_kept m e h v q s k = k
 
   assign_kept : (m : Option Meaning) (place : ℕ) (e : Expression) → AllKeep (looked_at e) → AssignmentKeeps m e → (s : State V) → StateKept s
@@ -192,12 +191,12 @@ module _ {V : Type 0} (M : Elaborated) (c : Context V) (F : Functions V) (Q : Ex
         by_test a false d = k.held a
     contributed_kept m e h biased v q s k = k
 
-    repeated_kept : (n : ℕ) (i : ℤ) (turn : State V → Outcome Reason (State V)) → ((s : State V) → StateKept s → IfGives StateKept (turn s))
-        → (s : State V) → StateKept s → IfGives StateKept (repeated Turns n i turn s)
+    repeated_kept : (n : ℕ) (i : ℤ) (turn : State V → Outcome E (State V)) → ((s : State V) → StateKept s → IfGives StateKept (turn s))
+        → (s : State V) → StateKept s → IfGives StateKept (repeated (c.stops Turns) n i turn s)
     repeated_kept n i turn h s k =
         let P = λ (at : Counted (State V)). StateKept at.state in
-        then_if P StateKept (turns Turns gives turns_left (count_down turn) n (record { left = i; state = s })) _
-        (turns_if P P Turns gives turns_left (count_down turn) (λ at q. q) (λ at q. then_if StateKept P (turn at.state) _ (h at.state q) (λ t p. p)) n _ k)
+        then_if P StateKept (turns (c.stops Turns) gives turns_left (count_down turn) n (record { left = i; state = s })) _
+        (turns_if P P (c.stops Turns) gives turns_left (count_down turn) (λ at q. q) (λ at q. then_if StateKept P (turn at.state) _ (h at.state q) (λ t p. p)) n _ k)
         (λ at q. q)
 
     mutual
@@ -214,11 +213,11 @@ module _ {V : Type 0} (M : Elaborated) (c : Context V) (F : Functions V) (Q : Ex
           (λ v i. run_case_kept _ _ v items h.0 _ (λ s k. run_default_kept _ _ defaults h.1 s k) s k)
       run_kept b place (for_loop at target first test target' step body) h s k =
           then_if StateKept StateKept (assign_value M c F (M.meaning target.at) place first s) _ (assign_kept (M.meaning target.at) place first h.0.0 h.0.1 s k)
-          (λ s k. while_if StateKept Turns _ _ (λ s k. then_if StateKept StateKept _ _ (run_kept _ _ body h.2 s k) (λ s k. assign_kept _ _ step h.1.0 h.1.1 s k)) c.bound s k)
-      run_kept b place (while_loop at test body) h s k = while_if StateKept Turns _ _ (λ s k. run_kept _ _ body h s k) c.bound s k
+          (λ s k. while_if StateKept (c.stops Turns) _ _ (λ s k. then_if StateKept StateKept _ _ (run_kept _ _ body h.2 s k) (λ s k. assign_kept _ _ step h.1.0 h.1.1 s k)) c.bound s k)
+      run_kept b place (while_loop at test body) h s k = while_if StateKept (c.stops Turns) _ _ (λ s k. run_kept _ _ body h s k) c.bound s k
       run_kept b place (repeat_loop at count body) h s k =
           then_if (λ (v : Number V). Unit {0}) StateKept (value_of M c F place count s.variables) _ (anything (value_of M c F place count s.variables))
-          (λ v i. then_if (λ (z : ℤ). Unit {0}) StateKept (to_integer c.ops v) _ (anything (to_integer c.ops v)) (λ z i. repeated_kept c.bound z _ (λ s k. run_kept _ _ body h s k) s k))
+          (λ v i. then_if (λ (z : ℤ). Unit {0}) StateKept (told c (to_integer c.ops v)) _ (anything (told c (to_integer c.ops v))) (λ z i. repeated_kept c.bound z _ (λ s k. run_kept _ _ body h s k) s k))
       run_kept b place (event at InitialStep analyses body) h s k = run_kept b place body h s k
       run_kept b place (event at FinalStep analyses body) h s k = k
       run_kept b place (assign at target value) h s k = assign_kept (M.meaning at) place value h.0 h.1 s k
@@ -230,7 +229,7 @@ module _ {V : Type 0} (M : Elaborated) (c : Context V) (F : Functions V) (Q : Ex
       run_all_kept b place no_statement h s k = k
       run_all_kept b place (statement_then p ps) h s k = then_if StateKept StateKept (run M c F b place p s) _ (run_kept b place p h.0 s k) (λ s k. run_all_kept b _ ps h.1 s k)
 
-      run_case_kept : (b : Bool) (place : ℕ) (v : Number V) (items : Items) → ItemsKeep items → (otherwise : State V → Outcome Reason (State V))
+      run_case_kept : (b : Bool) (place : ℕ) (v : Number V) (items : Items) → ItemsKeep items → (otherwise : State V → Outcome E (State V))
           → ((s : State V) → StateKept s → IfGives StateKept (otherwise s)) → (s : State V) → StateKept s → IfGives StateKept (run_case M c F b place v items otherwise s)
       run_case_kept b place v no_items h otherwise o s k = o s k
       run_case_kept b place v (item_then at values body rest) h otherwise o s k =
@@ -244,7 +243,7 @@ module _ {V : Type 0} (M : Elaborated) (c : Context V) (F : Functions V) (Q : Ex
     abbrev pub InitialisersKeep : List Initialiser → Type 0
     InitialisersKeep [] = Unit {0}
     InitialisersKeep (i ∷ is) =
-        (AllKeep (looked_at i.value) × ((v : Number V) → Q i.value v → IfGives (S i.variable) (converted c.ops (M.variable_type i.variable) v)))
+        (AllKeep (looked_at i.value) × ((v : Number V) → Q i.value v → IfGives (S i.variable) (told c (converted c.ops (M.variable_type i.variable) v))))
         × InitialisersKeep is
 
     abbrev pub BlocksKeep : List Statement → Type 0
@@ -256,7 +255,7 @@ module _ {V : Type 0} (M : Elaborated) (c : Context V) (F : Functions V) (Q : Ex
     initialised_kept [] h vars k = k
     initialised_kept (i ∷ is) h vars k =
         then_if (Q i.value) _ (value_of M c F 0 i.value vars) _ (value_kept 0 i.value vars h.0.0 k)
-        (λ v q. then_if (S i.variable) _ (converted c.ops (M.variable_type i.variable) v) _ (h.0.1 v q)
+        (λ v q. then_if (S i.variable) _ (told c (converted c.ops (M.variable_type i.variable) v)) _ (h.0.1 v q)
         (λ w p. initialised_kept is h.1 (with_variable vars i.variable w) (set_kept i.variable w vars p k)))
 
     pub blocks_kept : (place : ℕ) (blocks : List Statement) → BlocksKeep blocks → (s : State V) → StateKept s → IfGives StateKept (run_blocks M c F place blocks s)

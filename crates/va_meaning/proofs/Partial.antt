@@ -2,7 +2,7 @@
 use Rattle.std.specs.Prelude.{◌≡◌, ℕ, zero, suc, Bool, true, false, if◌then◌else◌}
 use Rattle.std.proofs.Common.{refl, subst}
 use Rattle.alg_laws.specs.Loop.{turns, tested, Tested, while_turns}
-use Rattle.alg_laws.specs.Outcome.{Outcome, gives, ends, ◌>>=◌}
+use Rattle.alg_laws.specs.Outcome.{Outcome, gives, ends, ◌>>=◌, among}
 
 -- P holds of the value, if there is one
 abbrev pub IfGives : {E A : Type 0} → (A → Type 0) → Outcome E A → Type 0
@@ -18,6 +18,10 @@ BothGive P (ends e) b = Unit {0}
 pub anything : {E A : Type 0} (a : Outcome E A) → IfGives (λ (x : A). Unit {0}) a
 anything (gives x) = tt
 anything (ends e) = tt
+
+pub among_if : {E F A : Type 0} (f : E → F) (P : A → Type 0) (a : Outcome E A) → IfGives P a → IfGives P (among f a)
+among_if f P (gives x) h = h
+among_if f P (ends e) h = tt
 
 pub then_if : {E A B : Type 0} (P : A → Type 0) (Q : B → Type 0) (a : Outcome E A) (f : A → Outcome E B) → IfGives P a
     → ((x : A) → P x → IfGives Q (f x)) → IfGives Q (a >>= f)

@@ -2,23 +2,25 @@
 use Rattle.std.specs.Prelude.{◌≡◌, ℕ, zero, suc, ◌+◌, Bool, true, false, if◌then◌else◌, List, [], ◌∷◌, ◌++◌, Option, Some, None, length, get_or}
 use Rattle.std.specs.List.{slice_get}
 use Rattle.std.proofs.lemmas.List.{append-nil, append_assoc}
-use Rattle.std.proofs.Common.{refl, ap, sym, ◌∙◌, subst, arith, length-append}
+use Rattle.std.proofs.Common.{refl, ap, sym, ◌∙◌, subst, arith, length-append, inl}
 use Rattle.alg_laws.specs.declared.number.Number.{Number}
 use Rattle.alg_laws.specs.declared.number.Reason.{Reason}
 use Rattle.alg_laws.specs.NumberOps.{type_of as type_of_number, converted}
 use Rattle.alg_laws.specs.NumberParts.{NumberValid}
 use Rattle.alg_laws.specs.Operations.{Operations, IsAlgebra}
 use Rattle.alg_laws.specs.Outcome.{Outcome, gives, ends, ◌>>=◌}
-use Rattle.alg_laws.specs.Related.{NumbersRelated, reals, OutcomesRelated, both_give, both_end, IsValid}
+use Rattle.alg_laws.specs.Related.{NumbersRelated, reals, OutcomesRelated, both_give as outcomes_give, both_end as outcomes_end, IsValid}
 use Rattle.alg_laws.proofs.Outcomes.{is_valid, valid_is}
 use Rattle.alg_laws.proofs.Related.{converted_related}
 use Rattle.alg_laws.proofs.Relations.{validity_relates}
 use Rattle.va_tree.specs.Expressions.{Expression}
 use Rattle.va_meaning.specs.Elaborated.{Elaborated, Parameter}
-use Rattle.va_meaning.specs.Related.{ContextsRelated}
+use Rattle.va_meaning.specs.Points.{Result}
+use Rattle.va_meaning.specs.Related.{same_ends, both_give, ContextsRelated}
 use Rattle.va_meaning.specs.SetUp.{Settings, else_given, knowing, constant_value, parameter_value, values_from, Level, counts_on_model, counts_on_instance, level, given_to_model, model_level, given_to_instance, instance_level, errors_from}
 use Rattle.va_meaning.specs.SetUpLaws.{FitsParameter, SettingsFit, LevelFits, PointsOfSetUps}
-use Rattle.va_meaning.specs.Values.{Result, no_value}
+use Rattle.va_meaning.specs.Values.{no_value}
+use Rattle.va_meaning.proofs.Endings.{same_closed, same_related}
 use Rattle.va_meaning.proofs.Partial.{IfGives, anything, then_if}
 use Rattle.va_meaning.proofs.Related.{value_related}
 use Rattle.va_meaning.proofs.Types.{converted_typed}
@@ -52,7 +54,7 @@ module _ {V : Type 0} (M : Elaborated) (o : Operations V) (valid unit : V → Ty
   fits_there (v ∷ vs) (q ∷ ps) h (suc p) = fits_there vs ps h.1 p
 
   -- a constant expression over valid values is valid
-  knowing_valid : (vs : List (Number V)) → AllValid vs → ContextsRelated (IsValid valid) (knowing M o vs) (knowing M o vs)
+  knowing_valid : (vs : List (Number V)) → AllValid vs → ContextsRelated same_ends (IsValid valid) (knowing M o vs) (knowing M o vs)
   knowing_valid vs h = record {
     ops = validity_relates o valid unit l;
     derivative = (refl, l.valid_zero);
@@ -62,19 +64,20 @@ module _ {V : Type 0} (M : Elaborated) (o : Operations V) (valid unit : V → Ty
       temperature = (refl, l.valid_zero);
       unknowns = λ i. (refl, l.valid_zero);
     };
-    bound = refl;
-    answers = λ k. (refl, l.valid_zero);
+    bound = inl refl;
+    stops = λ reason. refl;
+    answers = λ number outs outs' h. both_give (refl, l.valid_zero);
   }
 
-  related_valid : {a b : Result V} → OutcomesRelated (NumbersRelated (IsValid valid)) a b → IfGives (NumberValid valid) a
-  related_valid (both_give h) = valid_is valid h
-  related_valid both_end = tt
+  related_valid : {a b : Result Reason V} → OutcomesRelated (NumbersRelated (IsValid valid)) a b → IfGives (NumberValid valid) a
+  related_valid (outcomes_give h) = valid_is valid h
+  related_valid outcomes_end = tt
 
   constant_valid : (vs : List (Number V)) → AllValid vs → (e : Expression) → IfGives (NumberValid valid) (constant_value M o vs e)
   constant_valid vs h e =
       related_valid
-      (value_related M (knowing M o vs) (knowing M o vs) (IsValid valid) (knowing_valid vs h) (λ f outs. gives (no_value o)) (λ f outs. gives (no_value o))
-      (λ f outs outs' k. both_give (reals (refl, l.valid_zero))) 0 e (λ x. no_value o) (λ x. no_value o) (λ x. reals (refl, l.valid_zero)))
+      (same_related (NumbersRelated (IsValid valid)) (value_related same_ends same_closed M (knowing M o vs) (knowing M o vs) (IsValid valid) (knowing_valid vs h) (λ f outs. gives (no_value o)) (λ f outs. gives (no_value o))
+      (λ f outs outs' k. both_give (reals (refl, l.valid_zero))) 0 e (λ x. no_value o) (λ x. no_value o) (λ x. reals (refl, l.valid_zero))))
 
   both_of_it : {A : Type 0} (P Q : A → Type 0) (a : Outcome Reason A) → IfGives P a → IfGives Q a → IfGives (λ x. P x × Q x) a
   both_of_it P Q (gives x) h k = (h, k)
@@ -85,7 +88,7 @@ module _ {V : Type 0} (M : Elaborated) (o : Operations V) (valid unit : V → Ty
       then_if (NumberValid valid) (FitsParameter valid (Some p)) (constant_value M o vs p.default) (converted o p.ty) (constant_valid vs h p.default)
       (λ v k. fitting (converted o p.ty v) (related_valid (converted_related o o (IsValid valid) (validity_relates o valid unit l) p.ty (is_valid valid v k))) (converted_typed o p.ty v))
     where
-      fitting : (out : Result V) → IfGives (NumberValid valid) out → IfGives (λ v. type_of_number v ≡ p.ty) out → IfGives (FitsParameter valid (Some p)) out
+      fitting : (out : Result Reason V) → IfGives (NumberValid valid) out → IfGives (λ v. type_of_number v ≡ p.ty) out → IfGives (FitsParameter valid (Some p)) out
       fitting (gives v) h k = record { value = h; ty = k }
       fitting (ends e) h k = tt
 

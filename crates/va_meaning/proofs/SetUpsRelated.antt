@@ -3,7 +3,7 @@
 use Rattle.std.specs.Prelude.{◌≡◌, ℕ, zero, suc, ◌+◌, ◌&&◌, ◌||◌, not, if◌then◌else◌, List, [], ◌∷◌, ◌++◌, Option, Some, None, option_map, length, get_or}
 use Rattle.std.specs.List.{slice_get}
 use Rattle.std.specs.Option.{is_some}
-use Rattle.std.proofs.Common.{refl, ap, subst}
+use Rattle.std.proofs.Common.{refl, ap, subst, inl}
 use Rattle.alg_laws.specs.declared.dual.Dual.{Dual}
 use Rattle.alg_laws.specs.declared.number.Number.{Number}
 use Rattle.alg_laws.specs.declared.number.Number.TheVariants.{Real, Int}
@@ -17,10 +17,11 @@ use Rattle.alg_laws.proofs.Related.{then_related, chosen_related, converted_rela
 use Rattle.alg_laws.proofs.Relations.{mains_relate, lifts_relate}
 use Rattle.va_tree.specs.Expressions.{Expression, literal, infinity, name, group, unary, binary, choose, call}
 use Rattle.va_meaning.specs.Elaborated.{Elaborated, Parameter, Range, from, exclude, exclude_value, Interval, End}
-use Rattle.va_meaning.specs.Related.{ContextsRelated}
+use Rattle.va_meaning.specs.Related.{same_ends, both_give as both_are_given, ContextsRelated}
 use Rattle.va_meaning.specs.SetUp.{Settings, else_given, knowing, constant_value, parameter_value, values_from, holds_infinity, above, below, is_in, breaks, breaks_one, errors_from, counts_on_model, counts_on_instance, level, given_to_model, model_level, given_to_instance, instance_level, was_given}
 use Rattle.va_meaning.specs.SetUpLaws.{LevelsRelated, main_settings, lifted_settings, MainsOfSetUps, SettingsValid, LiftsOfSetUps}
 use Rattle.va_meaning.specs.Values.{no_value}
+use Rattle.va_meaning.proofs.Endings.{same_closed, same_related}
 use Rattle.va_meaning.proofs.Related.{value_related}
 
 -- what is given alike
@@ -50,20 +51,22 @@ module _ {V W : Type 0} (M : Elaborated) (o : Operations V) (p : Operations W) (
   same_length none_more = refl
   same_length (one_more k ks) = ap suc (same_length ks)
 
-  knowing_related : (vs : List (Number V)) (ws : List (Number W)) → Values vs ws → ContextsRelated R (knowing M o vs) (knowing M p ws)
+  knowing_related : (vs : List (Number V)) (ws : List (Number W)) → Values vs ws → ContextsRelated same_ends R (knowing M o vs) (knowing M p ws)
   knowing_related vs ws k = record {
     ops = h;
     derivative = h.zero;
     point = record { parameters = λ i. value_there k i; given = λ i. refl; temperature = h.zero; unknowns = λ i. h.zero };
-    bound = refl;
-    answers = λ i. h.zero;
+    bound = inl refl;
+    stops = λ reason. refl;
+    answers = λ number outs outs' l. both_are_given h.zero;
   }
 
   constant_related : (vs : List (Number V)) (ws : List (Number W)) → Values vs ws → (e : Expression)
       → OutcomesRelated (NumbersRelated R) (constant_value M o vs e) (constant_value M p ws e)
   constant_related vs ws k e =
-      value_related M (knowing M o vs) (knowing M p ws) R (knowing_related vs ws k) (λ f outs. gives (no_value o)) (λ f outs. gives (no_value p))
-      (λ f outs outs' l. both_give (reals h.zero)) 0 e (λ x. no_value o) (λ x. no_value p) (λ x. reals h.zero)
+      same_related (NumbersRelated R)
+      (value_related same_ends same_closed M (knowing M o vs) (knowing M p ws) R (knowing_related vs ws k) (λ f outs. gives (no_value o)) (λ f outs. gives (no_value p))
+      (λ f outs outs' l. both_are_given (reals h.zero)) 0 e (λ x. no_value o) (λ x. no_value p) (λ x. reals h.zero))
 
   parameter_related : (vs : List (Number V)) (ws : List (Number W)) → Values vs ws → (q : Parameter) {g : Option (Number V)} {g' : Option (Number W)}
       → GivenRelated R g g' → OutcomesRelated (NumbersRelated R) (parameter_value M o vs q g) (parameter_value M p ws q g')

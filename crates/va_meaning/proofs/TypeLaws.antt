@@ -17,12 +17,12 @@ use Rattle.va_meaning.proofs.Types.{value_typed}
 given_value : {E A : Type 0} (P : A → Type 0) (a : Outcome E A) (x : A) → IfGives P a → a ≡ gives x → P x
 given_value {E} {A} P a x h e = subst (λ (a : Outcome E A). IfGives P a) e h
 
-pub types_of_values : {V : Type 0} (o : Operations V) (valid : V → Type 0) → TypesOfValues V o valid
+pub types_of_values : {E V : Type 0} (o : Operations V) (valid : V → Type 0) → TypesOfValues E V o valid
 types_of_values o valid = record {
-  expressions = λ M t fits s P n answers point place e faults vars h v d.
-      let c = over o s P n answers in
+  expressions = λ M t fits s P n stops answers point place e faults vars h v d.
+      let c = over o s P n stops answers in
       given_value (λ v. type_of_number v ≡ type_of t e) _ v
       (value_typed M t fits c point (functions M c) (functions_typed M (without_unknowns c) (length M.functions)) place e vars h faults) d;
-  variables = λ M s P n answers last e.
-      given_value (λ s. IsTypedStore M s.variables) _ last (evaluated_typed M (over o s P n answers)) e;
+  variables = λ M s P n stops answers last e.
+      given_value (λ s. IsTypedStore M s.variables) _ last (evaluated_typed M (over o s P n stops answers)) e;
 }

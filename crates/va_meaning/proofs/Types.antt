@@ -39,12 +39,12 @@ use Rattle.va_tree.specs.declared.expr.UnaryOp.TheVariants.{Plus, Minus, Not}
 use Rattle.va_tree.specs.Expressions.{Expression, Arguments, literal, infinity, name, group, unary, binary, choose, call, no_more, text_then, expression_then, at_of}
 use Rattle.va_meaning.specs.Called.{builtin_called, system_called, called}
 use Rattle.va_meaning.specs.Elaborated.{Elaborated}
-use Rattle.va_meaning.specs.Points.{Context, Store}
+use Rattle.va_meaning.specs.Points.{Context, Result, Store, told}
 use Rattle.va_meaning.specs.Types.{result_type, HasTyping, IsTypedPoint, IsTypedStore}
-use Rattle.va_meaning.specs.Values.{Functions, Result, size, argument, numeral, unary_value, binary_value, named, builtin_value, given_argument, thermal_value, system_value, call_value, value_of, outcomes_of}
-use Rattle.va_meaning.proofs.Partial.{IfGives, anything, then_if, chosen_if}
+use Rattle.va_meaning.specs.Values.{Functions, size, argument, numeral, unary_value, binary_value, named, builtin_value, given_argument, thermal_value, system_value, call_value, value_of, outcomes_of}
+use Rattle.va_meaning.proofs.Partial.{IfGives, anything, among_if, then_if, chosen_if}
 
-abbrev Typed : {V : Type 0} → Ty → Result V → Type 0
+abbrev Typed : {E V : Type 0} → Ty → Result E V → Type 0
 Typed ty out = IfGives (λ v. type_of_number v ≡ ty) out
 
 -- two lists of which nothing is left
@@ -76,6 +76,13 @@ truth_typed V false = refl
 pub converted_typed : {V : Type 0} (o : Operations V) (ty : Ty) (v : Number V) → Typed ty (converted o ty v)
 converted_typed {V} o Integer v = as_int_typed V (to_integer o v)
 converted_typed o RealTy v = refl
+
+-- an operation of the language
+said : {E V : Type 0} (c : Context E V) (ty : Ty) (out : Outcome Reason (Number V)) → Typed ty out → Typed ty (told c out)
+said c ty out h = among_if c.stops (λ v. type_of_number v ≡ ty) out h
+
+pub told_typed : {E V : Type 0} (c : Context E V) (ty : Ty) (v : Number V) → Typed ty (told c (converted c.ops ty v))
+told_typed c ty v = said c ty (converted c.ops ty v) (converted_typed c.ops ty v)
 
 pub zero_typed : {V : Type 0} (o : Operations V) (ty : Ty) → type_of_number (zero_of o ty) ≡ ty
 zero_typed o Integer = refl
@@ -139,41 +146,42 @@ module _ {V : Type 0} (o : Operations V) where
   maximum_typed (Real x) (Int j) = refl
   maximum_typed (Real x) (Real y) = refl
 
-  unary_typed : (op : UnaryOp) (v : Number V) → Typed (type_of_unary op (type_of_number v)) (unary_value o op v)
+module _ {E V : Type 0} (c : Context E V) where
+  unary_typed : (op : UnaryOp) (v : Number V) → Typed (type_of_unary op (type_of_number v)) (unary_value c op v)
   unary_typed Plus v = refl
-  unary_typed Minus v = negative_typed v
-  unary_typed Not v = truth_typed V (not (is_true o v))
+  unary_typed Minus v = said c (type_of_number v) (negative_of c.ops v) (negative_typed c.ops v)
+  unary_typed Not v = truth_typed V (not (is_true c.ops v))
 
   -- after a right side of some type
-  after_right : (b : Ty) (right : Result V) (f : Number V → Result V) (ty : Ty → Ty) → Typed b right
-      → ((w : Number V) → type_of_number w ≡ b → Typed (ty (type_of_number w)) (f w)) → Typed (ty b) (right >>= f)
-  after_right b right f ty h k =
-      then_if (λ w. type_of_number w ≡ b) (λ v. type_of_number v ≡ ty b) right f h
-      (λ w e. subst (λ (c : Ty). IfGives (λ v. type_of_number v ≡ ty c) (f w)) e (k w e))
+  after_right : (a b : Ty) (right : Result E V) (f : Number V → Outcome Reason (Number V)) → Typed b right
+      → ((w : Number V) → type_of_number w ≡ b → Typed (either_type a (type_of_number w)) (f w)) → Typed (either_type a b) (right >>= λ w. told c (f w))
+  after_right a b right f h k =
+      then_if (λ w. type_of_number w ≡ b) (λ v. type_of_number v ≡ either_type a b) right _ h
+      (λ w e. said c (either_type a b) (f w) (subst (λ (ty : Ty). IfGives (λ v. type_of_number v ≡ either_type a ty) (f w)) e (k w e)))
 
-  binary_typed : (op : BinaryOp) (v : Number V) (b : Ty) (right : Result V) → Typed b right
-      → (is_remainder op && (is_real (type_of_number v) || is_real b)) ≡ false → Typed (type_of_binary op (type_of_number v) b) (binary_value o op v right)
+  binary_typed : (op : BinaryOp) (v : Number V) (b : Ty) (right : Result E V) → Typed b right
+      → (is_remainder op && (is_real (type_of_number v) || is_real b)) ≡ false → Typed (type_of_binary op (type_of_number v) b) (binary_value c op v right)
   binary_typed Or v b right h k =
-      chosen_if _ (is_true o v) _ _ refl (then_if _ _ right _ (anything right) (λ w e. truth_typed V (is_true o w)))
+      chosen_if _ (is_true c.ops v) _ _ refl (then_if _ _ right _ (anything right) (λ w e. truth_typed V (is_true c.ops w)))
   binary_typed And v b right h k =
-      chosen_if _ (is_true o v) _ _ (then_if _ _ right _ (anything right) (λ w e. truth_typed V (is_true o w))) refl
-  binary_typed Equal v b right h k = then_if _ _ right _ (anything right) (λ w e. truth_typed V (is_same o v w))
-  binary_typed NotEqual v b right h k = then_if _ _ right _ (anything right) (λ w e. truth_typed V (not (is_same o v w)))
-  binary_typed Less v b right h k = then_if _ _ right _ (anything right) (λ w e. truth_typed V (is_less o v w))
-  binary_typed AtMost v b right h k = then_if _ _ right _ (anything right) (λ w e. truth_typed V (is_at_most o v w))
-  binary_typed Greater v b right h k = then_if _ _ right _ (anything right) (λ w e. truth_typed V (is_less o w v))
-  binary_typed AtLeast v b right h k = then_if _ _ right _ (anything right) (λ w e. truth_typed V (is_at_most o w v))
-  binary_typed Add v b right h k = after_right b right (sum_of o v) (either_type (type_of_number v)) h (λ w e. sum_typed v w)
-  binary_typed Subtract v b right h k = after_right b right (difference_of o v) (either_type (type_of_number v)) h (λ w e. difference_typed v w)
-  binary_typed Multiply v b right h k = after_right b right (product_of o v) (either_type (type_of_number v)) h (λ w e. product_typed v w)
-  binary_typed Divide v b right h k = after_right b right (quotient_of o v) (either_type (type_of_number v)) h (λ w e. quotient_typed v w)
+      chosen_if _ (is_true c.ops v) _ _ (then_if _ _ right _ (anything right) (λ w e. truth_typed V (is_true c.ops w))) refl
+  binary_typed Equal v b right h k = then_if _ _ right _ (anything right) (λ w e. truth_typed V (is_same c.ops v w))
+  binary_typed NotEqual v b right h k = then_if _ _ right _ (anything right) (λ w e. truth_typed V (not (is_same c.ops v w)))
+  binary_typed Less v b right h k = then_if _ _ right _ (anything right) (λ w e. truth_typed V (is_less c.ops v w))
+  binary_typed AtMost v b right h k = then_if _ _ right _ (anything right) (λ w e. truth_typed V (is_at_most c.ops v w))
+  binary_typed Greater v b right h k = then_if _ _ right _ (anything right) (λ w e. truth_typed V (is_less c.ops w v))
+  binary_typed AtLeast v b right h k = then_if _ _ right _ (anything right) (λ w e. truth_typed V (is_at_most c.ops w v))
+  binary_typed Add v b right h k = after_right (type_of_number v) b right (sum_of c.ops v) h (λ w e. sum_typed c.ops v w)
+  binary_typed Subtract v b right h k = after_right (type_of_number v) b right (difference_of c.ops v) h (λ w e. difference_typed c.ops v w)
+  binary_typed Multiply v b right h k = after_right (type_of_number v) b right (product_of c.ops v) h (λ w e. product_typed c.ops v w)
+  binary_typed Divide v b right h k = after_right (type_of_number v) b right (quotient_of c.ops v) h (λ w e. quotient_typed c.ops v w)
   binary_typed Remainder v b right h k =
-      after_right b right (remainder_of o v) (either_type (type_of_number v)) h
-      (λ w e. remainder_typed v w (subst (λ (c : Ty). (is_real (type_of_number v) || is_real c) ≡ false) (sym e) k))
+      after_right (type_of_number v) b right (remainder_of c.ops v) h
+      (λ w e. remainder_typed c.ops v w (subst (λ (c : Ty). (is_real (type_of_number v) || is_real c) ≡ false) (sym e) k))
   binary_typed Power v b right h k = then_if _ _ right _ (anything right) (λ w e. refl)
 
 -- what the arguments of a call give, and their types, for those places that pass a test
-abbrev Fit : {V : Type 0} → (ℕ → Bool) → ℕ → List (Result V) → List (Option Ty) → Type 0
+abbrev Fit : {E V : Type 0} → (ℕ → Bool) → ℕ → List (Result E V) → List (Option Ty) → Type 0
 Fit test i [] tys = Unit {0}
 Fit test i (out ∷ outs) [] = Unit {0}
 Fit test i (out ∷ outs) (None ∷ tys) = Fit test (i + 1) outs tys
@@ -186,10 +194,10 @@ common_one RealTy = refl
 too_many : (n k : ℕ) → k < n → (n == k) ≡ true → ⊥
 too_many n k le h = omega (arith, le, exact_unsigned_eq n k h)
 
-module _ {V : Type 0} (M : Elaborated) (t : Typing) (fits : HasTyping M t) (c : Context V) (point : IsTypedPoint t c.point) (F : Functions V)
-    (functions_typed : (f : ℕ) (outs : List (Result V)) → Typed (result_type (slice_get M.functions f)) (F f outs)) where
+module _ {E V : Type 0} (M : Elaborated) (t : Typing) (fits : HasTyping M t) (c : Context E V) (point : IsTypedPoint t c.point) (F : Functions E V)
+    (functions_typed : (f : ℕ) (outs : List (Result E V)) → Typed (result_type (slice_get M.functions f)) (F f outs)) where
   -- two values of some types
-  after_two : (a b : Ty) (x y : Result V) (f : Number V → Number V → Number V) → Typed a x → Typed b y
+  after_two : (a b : Ty) (x y : Result E V) (f : Number V → Number V → Number V) → Typed a x → Typed b y
       → ((v w : Number V) → type_of_number (f v w) ≡ either_type (type_of_number v) (type_of_number w))
       → Typed (either_type a b) (x >>= λ v. y >>= λ w. gives (f v w))
   after_two a b x y f h k l =
@@ -200,12 +208,12 @@ module _ {V : Type 0} (M : Elaborated) (t : Typing) (fits : HasTyping M t) (c : 
   absolute_call_typed : (bytes : Bytes) (place : ℕ) (args : Arguments) (vars : Store V) → (argument_count args == 1) ≡ true
       → kind_faults t.uses (taken_at callee.Function bytes) 0 args ≡ []
       → Fit (call_looks callee.Function bytes) 0 (outcomes_of M c F place args vars) (types_of_arguments t args)
-      → Typed (common (types_of_arguments t args)) (argument c.ops 0 (outcomes_of M c F place args vars) >>= absolute_of c.ops)
+      → Typed (common (types_of_arguments t args)) (argument c.ops 0 (outcomes_of M c F place args vars) >>= λ v. told c (absolute_of c.ops v))
   absolute_call_typed bytes place no_more vars h k l = cc (h)
   absolute_call_typed bytes place (text_then text rest) vars h k l = cc (k)
   absolute_call_typed bytes place (expression_then e no_more) vars h k l =
-      then_if (λ v. type_of_number v ≡ type_of t e) (λ v. type_of_number v ≡ common (Some (type_of t e) ∷ [])) (value_of M c F place e vars) (absolute_of c.ops) (l.0 refl)
-      (λ v d. subst (λ (ty : Ty). IfGives (λ w. type_of_number w ≡ ty) (absolute_of c.ops v)) (d ∙ sym (common_one (type_of t e))) (absolute_typed c.ops v))
+      then_if (λ v. type_of_number v ≡ type_of t e) (λ v. type_of_number v ≡ common (Some (type_of t e) ∷ [])) (value_of M c F place e vars) (λ v. told c (absolute_of c.ops v)) (l.0 refl)
+      (λ v d. subst (λ (ty : Ty). IfGives (λ w. type_of_number w ≡ ty) (told c (absolute_of c.ops v))) (d ∙ sym (common_one (type_of t e))) (said c (type_of_number v) (absolute_of c.ops v) (absolute_typed c.ops v)))
   absolute_call_typed bytes place (expression_then e (text_then text rest)) vars h k l = cc (k)
   absolute_call_typed bytes place (expression_then e (expression_then f rest)) vars h k l =
       absurd (too_many (argument_count rest + 1 + 1) 1 (omega arith) h)
@@ -238,7 +246,8 @@ module _ {V : Type 0} (M : Elaborated) (t : Typing) (fits : HasTyping M t) (c : 
   builtin_call_typed Max bytes at place args vars h k l = two_call_typed bytes place args vars (maximum_of c.ops) (maximum_typed c.ops) h k l
   builtin_call_typed LimExp bytes at place args vars h k l = then_if _ _ (argument c.ops 0 (outcomes_of M c F place args vars)) _ (anything (argument c.ops 0 (outcomes_of M c F place args vars))) (λ v e. refl)
   builtin_call_typed Ddt bytes at place args vars h k l = then_if _ _ (argument c.ops 0 (outcomes_of M c F place args vars)) _ (anything (argument c.ops 0 (outcomes_of M c F place args vars))) (λ v e. refl)
-  builtin_call_typed LeftOut bytes at place args vars h k l = refl
+  builtin_call_typed LeftOut bytes at place args vars h k l =
+      then_if (λ (x : V). Unit {0}) _ (c.answers at (outcomes_of M c F place args vars)) _ (anything (c.answers at (outcomes_of M c F place args vars))) (λ x i. refl)
 
   -- an access is real
   access_real : (m : Option Meaning) (fit : Bool) (args : List (Option Ty)) → means_access m ≡ true → type_of_called t fit args m ≡ RealTy
@@ -292,7 +301,7 @@ module _ {V : Type 0} (M : Elaborated) (t : Typing) (fits : HasTyping M t) (c : 
   system_call_typed Temperature place args vars h k l = refl
   system_call_typed ThermalVoltage place args vars h k l = thermal (outcomes_of M c F place args vars)
     where
-      thermal : (outs : List (Result V)) → Typed RealTy (thermal_value M c outs)
+      thermal : (outs : List (Result E V)) → Typed RealTy (thermal_value M c outs)
       thermal [] = refl
       thermal (out ∷ outs) = then_if _ _ out _ (anything out) (λ v e. refl)
   system_call_typed Limit place args vars h k l = limit_call_typed place args vars h k l
@@ -354,24 +363,24 @@ module _ {V : Type 0} (M : Elaborated) (t : Typing) (fits : HasTyping M t) (c : 
     value_typed place (name at bytes) vars h k = ap (λ m. type_of_number (named M c vars m)) (fits.meaning at) ∙ name_typed (meaning_at t.uses at) vars h
     value_typed place (group at inner) vars h k = value_typed (place + 1) inner vars h k
     value_typed place (unary at op operand) vars h k =
-        then_if (λ v. type_of_number v ≡ type_of t operand) _ (value_of M c F (place + 1) operand vars) (unary_value c.ops op) (value_typed (place + 1) operand vars h k)
-        (λ v e. subst (λ (ty : Ty). IfGives (λ w. type_of_number w ≡ type_of_unary op ty) (unary_value c.ops op v)) e (unary_typed c.ops op v))
+        then_if (λ v. type_of_number v ≡ type_of t operand) _ (value_of M c F (place + 1) operand vars) (unary_value c op) (value_typed (place + 1) operand vars h k)
+        (λ v e. subst (λ (ty : Ty). IfGives (λ w. type_of_number w ≡ type_of_unary op ty) (unary_value c op v)) e (unary_typed c op v))
     value_typed place (binary at left op right) vars h k =
         let inside = no_back (expression_faults t (binary at left op right)) _ k in
         let both = sym (flat_map-append (expression_faults t) (looked_at left) (looked_at right)) ∙ inside in
         then_if (λ v. type_of_number v ≡ type_of t left) _ (value_of M c F (place + 1) left vars) _
         (value_typed (place + 1) left vars h (no_front (flat_map (expression_faults t) (looked_at left)) _ both))
-        (λ v e. subst (λ (ty : Ty). IfGives (λ w. type_of_number w ≡ type_of_binary op ty (type_of t right)) (binary_value c.ops op v (value_of M c F (place + 1 + size left) right vars))) e
-        (binary_typed c.ops op v (type_of t right) _
+        (λ v e. subst (λ (ty : Ty). IfGives (λ w. type_of_number w ≡ type_of_binary op ty (type_of t right)) (binary_value c op v (value_of M c F (place + 1 + size left) right vars))) e
+        (binary_typed c op v (type_of t right) _
         (value_typed (place + 1 + size left) right vars h (no_back (flat_map (expression_faults t) (looked_at left)) _ both))
         (subst (λ (ty : Ty). (is_remainder op && (is_real ty || is_real (type_of t right))) ≡ false) (sym e)
         (no_fault _ at RealOperand (no_front (expression_faults t (binary at left op right)) _ k)))))
     value_typed place (choose at test a b) vars h k =
         then_if (λ v. Unit {0}) _ (value_of M c F (place + 1) test vars) _ (anything (value_of M c F (place + 1) test vars))
         (λ x i. then_if (λ v. Unit {0}) _ (if is_true c.ops x then value_of M c F (place + 1 + size test) a vars else value_of M c F (place + 1 + size test + size a) b vars) _ (anything _)
-        (λ v i. subst (λ (ty : Ty). IfGives (λ w. type_of_number w ≡ ty) (converted c.ops (joined (M.type_of a) (M.type_of b)) v))
+        (λ v i. subst (λ (ty : Ty). IfGives (λ w. type_of_number w ≡ ty) (told c (converted c.ops (joined (M.type_of a) (M.type_of b)) v)))
         (joined_either (M.type_of a) (M.type_of b) ∙ (λ j. either_type (fits.types a j) (fits.types b j)))
-        (converted_typed c.ops (joined (M.type_of a) (M.type_of b)) v)))
+        (told_typed c (joined (M.type_of a) (M.type_of b)) v)))
     value_typed place (call at callee.Function bytes args) vars h k =
         let own = no_front (expression_faults t (call at callee.Function bytes args)) _ k in
         let count = no_front (fault_if (not (call_takes t at callee.Function bytes (argument_count args))) at ArgumentCount) _ own in

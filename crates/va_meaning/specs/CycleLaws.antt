@@ -1,6 +1,7 @@
 -- Where no function of a module leads back to itself, functions are seen deep enough (User-defined analog functions).
 use Rattle.std.specs.Prelude.{◌≡◌, ℕ, ◌≤◌, ◌<◌, List, [], Some, length}
 use Rattle.std.specs.List.{slice_get}
+use Rattle.alg_laws.specs.declared.number.Reason.{Reason}
 use Rattle.alg_laws.specs.Operations.{Operations}
 use Rattle.va_sem.specs.NamesFaults.{names_faults}
 use Rattle.va_sem.specs.OwnTokens.{HasOwnTokens}
@@ -10,8 +11,7 @@ use Rattle.va_tree.specs.OwnTokens.{EachNameHasItsToken}
 use Rattle.va_meaning.specs.Elaboration.{module_seen}
 use Rattle.va_meaning.specs.Evaluation.{functions, functions_to, evaluated, evaluated_to}
 use Rattle.va_meaning.specs.Nesting.{IsWithoutCycle}
-use Rattle.va_meaning.specs.Points.{Point, over, without_unknowns}
-use Rattle.va_meaning.specs.Values.{Result}
+use Rattle.va_meaning.specs.Points.{Point, Result, Answers, over, without_unknowns}
 
 -- The module of a number, in a text whose names have no fault.
 pub record IsOfSoundNames (s : Source) (number : ℕ) (m : Module) : Type 0 where
@@ -27,10 +27,10 @@ pub record CycleLaws : Type 0 where
       → EachNameHasItsToken s → IsOfSoundNames s number m
 
 -- So its functions mean the same however much deeper they are seen, and so does every evaluation.
-pub record DepthsInModules (V : Type 0) (o : Operations V) (valid : V → Type 0) : Type 0 where
+pub record DepthsInModules (E V : Type 0) (o : Operations V) (valid : V → Type 0) : Type 0 where
   pub deeper : (s : Source) (number : ℕ) (m : Module) → IsOfSoundNames s number m → let M = module_seen s number m in
-      (x : V) (P : Point V) (n : ℕ) (answers : ℕ → V) (depth : ℕ) → length M.functions ≤ depth → (f : ℕ) → f < length M.functions
-      → (outs : List (Result V)) → functions_to M (without_unknowns (over o x P n answers)) depth f outs ≡ functions M (over o x P n answers) f outs
+      (x : V) (P : Point V) (n : ℕ) (stops : Reason → E) (answers : Answers E V) (depth : ℕ) → length M.functions ≤ depth → (f : ℕ) → f < length M.functions
+      → (outs : List (Result E V)) → functions_to M (without_unknowns (over o x P n stops answers)) depth f outs ≡ functions M (over o x P n stops answers) f outs
   pub evaluation : (s : Source) (number : ℕ) (m : Module) → IsOfSoundNames s number m → let M = module_seen s number m in
-      (x : V) (P : Point V) (n : ℕ) (answers : ℕ → V) (depth : ℕ) → length M.functions ≤ depth
-      → evaluated_to M (over o x P n answers) depth ≡ evaluated M (over o x P n answers)
+      (x : V) (P : Point V) (n : ℕ) (stops : Reason → E) (answers : Answers E V) (depth : ℕ) → length M.functions ≤ depth
+      → evaluated_to M (over o x P n stops answers) depth ≡ evaluated M (over o x P n stops answers)

@@ -1,5 +1,6 @@
 pub mod Bias
 pub mod Called
+pub mod Classes
 pub mod CycleLaws
 pub mod EachValue
 pub mod Elaborated
@@ -7,6 +8,7 @@ pub mod Elaboration
 pub mod ElaborationLaws
 pub mod Evaluation
 pub mod EvaluationLaws
+pub mod Motions
 pub mod Nesting
 pub mod Points
 pub mod Related

@@ -1,7 +1,9 @@
 -- Where a module is evaluated, and what an evaluation changes.
-use Rattle.std.specs.Prelude.{ℕ, ◌==◌, Bool, true, false, if◌then◌else◌}
+use Rattle.std.specs.Prelude.{ℕ, ◌==◌, Bool, true, false, if◌then◌else◌, List}
 use Rattle.alg_laws.specs.declared.number.Number.{Number}
+use Rattle.alg_laws.specs.declared.number.Reason.{Reason}
 use Rattle.alg_laws.specs.Operations.{Operations}
+use Rattle.alg_laws.specs.Outcome.{Outcome, gives, among}
 use Rattle.va_tree.specs.declared.source.Quantity.{Quantity}
 use Rattle.va_tree.specs.declared.source.Quantity.TheVariants.{Potential, Flow}
 
@@ -12,25 +14,43 @@ pub record Point (V : Type 0) : Type 0 where
   pub temperature : V
   pub unknowns : ℕ → V
 
+-- What an expression gives: a value, or an early end. The type E of early ends is a parameter.
+abbrev pub Result : Type 0 → Type 0 → Type 0
+Result E V = Outcome E (Number V)
+
+-- What numbered calls answer, by their numbers and by what each argument gives: a real, or an early end. The number of a call is its
+-- place in the pre-order of the expressions of the analogue blocks.
+abbrev pub Answers : Type 0 → Type 0 → Type 0
+Answers E V = ℕ → List (Result E V) → Outcome E V
+
+-- every numbered call is 0
+abbrev pub unanswered : {E V : Type 0} → Operations V → Answers E V
+unanswered o number outs = gives o.zero
+
 -- Over what an evaluation is: an algebra; an element of it, by which a time derivative multiplies (Time derivative operator); a
--- point; how many turns a loop may make at each entry; and the answers of numbered calls. The number of a call is its place in
--- the pre-order of the expressions of the analogue blocks.
-pub record Context (V : Type 0) : Type 0 where
+-- point; how many turns a loop may make at each entry; with what an evaluation ends that is undefined for a reason; and the answers
+-- of numbered calls.
+pub record Context (E V : Type 0) : Type 0 where
   pub ops : Operations V
   pub derivative : V
   pub point : Point V
   pub bound : ℕ
-  pub answers : ℕ → V
+  pub stops : Reason → E
+  pub answers : Answers E V
 
-abbrev pub over : {V : Type 0} → Operations V → V → Point V → ℕ → (ℕ → V) → Context V
-over o s P n answers = record { ops = o; derivative = s; point = P; bound = n; answers = answers }
+abbrev pub over : {E V : Type 0} → Operations V → V → Point V → ℕ → (Reason → E) → Answers E V → Context E V
+over o s P n stops answers = record { ops = o; derivative = s; point = P; bound = n; stops = stops; answers = answers }
+
+-- what an operation gives, its early ends told as those of an evaluation
+abbrev pub told : {E V A : Type 0} → Context E V → Outcome Reason A → Outcome E A
+told c out = among c.stops out
 
 -- the same at other values of the unknowns
-abbrev pub at_unknowns : {V : Type 0} → Context V → (ℕ → V) → Context V
+abbrev pub at_unknowns : {E V : Type 0} → Context E V → (ℕ → V) → Context E V
 at_unknowns c unknowns = record c { point = record c.point { unknowns = unknowns } }
 
 -- the same where each unknown is 0
-abbrev pub without_unknowns : {V : Type 0} → Context V → Context V
+abbrev pub without_unknowns : {E V : Type 0} → Context E V → Context E V
 without_unknowns c = at_unknowns c (λ i. c.ops.zero)
 
 -- the values of variables

@@ -12,7 +12,7 @@ use Rattle.alg_laws.specs.NumberParts.{lifted, main_of}
 use Rattle.alg_laws.specs.Operations.{Operations}
 use Rattle.alg_laws.specs.Outcome.{Outcome, gives, ◌>>=◌}
 use Rattle.va_meaning.specs.Elaborated.{Elaborated}
-use Rattle.va_meaning.specs.Points.{Point, Context, State, over}
+use Rattle.va_meaning.specs.Points.{Point, Context, State, over, unanswered}
 use Rattle.va_meaning.specs.Rows.{residuals}
 
 -- the same point over dual numbers, at which nothing moves
@@ -31,8 +31,8 @@ moved_point o j P = record (lifted_point o P) {
 }
 
 -- Over the dual numbers of an algebra, at a lifted point and with (0, 1) for a time derivative. Every numbered call is 0.
-abbrev pub in_parts : {V : Type 0} → Operations V → Point V → ℕ → Context (Dual V)
-in_parts o P n = over (dual o) (record { main = o.zero; part = o.one }) (lifted_point o P) n (λ k. (dual o).zero)
+abbrev pub in_parts : {V : Type 0} → Operations V → Point V → ℕ → Context Reason (Dual V)
+in_parts o P n = over (dual o) (record { main = o.zero; part = o.one }) (lifted_point o P) n (λ reason. reason) (unanswered (dual o))
 
 -- The residuals in two parts, for a loop that makes at most n turns: the main of each is the resistive residual of its row, and
 -- the part the reactive one.

@@ -1,7 +1,6 @@
 -- The rows of a module: Kirchhoff's current law at each node, and the equation of each potential branch (Contribution
 -- statements, Switch branches).
 use Rattle.std.specs.Prelude.{ℕ, ◌+◌, ◌==◌, Bool, false, if◌then◌else◌, List, [], ◌∷◌, ◌++◌, Option, Some, None, map}
-use Rattle.alg_laws.specs.declared.number.Reason.{Reason}
 use Rattle.alg_laws.specs.Outcome.{Outcome, gives, ◌>>=◌}
 use Rattle.alg_laws.specs.Sums.{total}
 use Rattle.va_sem.specs.declared.branch.BranchKind.{BranchKind}
@@ -20,7 +19,7 @@ abbrev pub is_end : ℕ → Option ℕ → Bool
 is_end node None = false
 is_end node (Some minus) = minus == node
 
-module _ {V : Type 0} (M : Elaborated) (c : Context V) (s : State V) where
+module _ {E V : Type 0} (M : Elaborated) (c : Context E V) (s : State V) where
   -- The flow of a branch: the sum that it holds, the unknown of a potential branch, and none where a potential is held by a
   -- collapsing branch.
   abbrev pub flow_of : ℕ → BranchKind → List V
@@ -46,7 +45,7 @@ module _ {V : Type 0} (M : Elaborated) (c : Context V) (s : State V) where
   row (Branch b) = c.ops.sum (potential_of M c.ops c.point (branch_of M b)) (c.ops.negative (held_of c.ops Potential (s.held b)))
 
 -- The residuals at a point: the rows of all unknowns, in order, after an evaluation.
-abbrev pub residuals : {V : Type 0} → Elaborated → Context V → Outcome Reason (List V)
+abbrev pub residuals : {E V : Type 0} → Elaborated → Context E V → Outcome E (List V)
 residuals M c = do
   s ← evaluated M c
   gives (map (row M c s) M.unknowns)

@@ -1,7 +1,6 @@
 -- What a statement does, over any algebra (Analog procedural block).
 use Rattle.std.specs.Prelude.{ℕ, ◌+◌, ◌==◌, Bool, true, false, ◌||◌, ℤ, pos, ◌-ℤ◌, int_lt, if◌then◌else◌, List, [], ◌∷◌, ◌++◌, Option, Some, length, flat_map}
 use Rattle.alg_laws.specs.declared.number.Number.{Number}
-use Rattle.alg_laws.specs.declared.number.Reason.{Reason}
 use Rattle.alg_laws.specs.declared.number.Reason.TheVariants.{Turns}
 use Rattle.alg_laws.specs.Loop.{turns, while_turns}
 use Rattle.alg_laws.specs.NumberOps.{to_real, to_integer, converted, is_true, is_same}
@@ -16,7 +15,7 @@ use Rattle.va_tree.specs.Expressions.{Expression}
 use Rattle.va_tree.specs.Preorder.{expressions_in, expressions_of_statement, expressions_of_items}
 use Rattle.va_tree.specs.Statements.{Statement, Statements, Items, Defaults, null, block, only_if, if_else, cases, for_loop, while_loop, repeat_loop, event, assign, contribute, task, no_more, statement_then, no_items, item_then, no_defaults, default_then}
 use Rattle.va_meaning.specs.Elaborated.{Elaborated}
-use Rattle.va_meaning.specs.Points.{Context, with_variable, State, held_of}
+use Rattle.va_meaning.specs.Points.{Context, with_variable, State, held_of, told}
 use Rattle.va_meaning.specs.Unknowns.{signed}
 use Rattle.va_meaning.specs.Values.{Functions, size, value_of}
 
@@ -73,19 +72,19 @@ repeated too_many n count turn s = do
   last ← turns too_many gives turns_left (count_down turn) n (record { left = count; state = s })
   gives last.state
 
-module _ {V : Type 0} (M : Elaborated) (c : Context V) (F : Functions V) where
+module _ {E V : Type 0} (M : Elaborated) (c : Context E V) (F : Functions E V) where
   -- whether a test holds
-  abbrev pub test_of : ℕ → Expression → State V → Outcome Reason Bool
+  abbrev pub test_of : ℕ → Expression → State V → Outcome E Bool
   test_of place e s = value_of M c F place e s.variables >>= λ v. gives (is_true c.ops v)
 
   -- A value is assigned to what a name means, converted to its type.
-  abbrev pub assigned : Option Meaning → Number V → State V → Outcome Reason (State V)
+  abbrev pub assigned : Option Meaning → Number V → State V → Outcome E (State V)
   assigned (Some (Var x)) v s = do
-    w ← converted c.ops (M.variable_type x) v
+    w ← told c (converted c.ops (M.variable_type x) v)
     gives (record s { variables = with_variable s.variables x w })
   assigned m v s = gives s
 
-  abbrev pub assign_value : Option Meaning → ℕ → Expression → State V → Outcome Reason (State V)
+  abbrev pub assign_value : Option Meaning → ℕ → Expression → State V → Outcome E (State V)
   assign_value m place e s = value_of M c F place e s.variables >>= λ v. assigned m v s
 
   -- A value is contributed to a quantity of a branch (Contribution statements): it is added to what the branch holds of this
@@ -101,7 +100,7 @@ module _ {V : Type 0} (M : Elaborated) (c : Context V) (F : Functions V) where
   contributed m biased v s = s
 
   -- whether a value is the same as one of some expressions', asked in order up to the first that is
-  abbrev pub is_among : ℕ → List Expression → Number V → State V → Outcome Reason Bool
+  abbrev pub is_among : ℕ → List Expression → Number V → State V → Outcome E Bool
   is_among place [] v s = gives false
   is_among place (e ∷ es) v s = do
     w ← value_of M c F place e s.variables
@@ -110,7 +109,7 @@ module _ {V : Type 0} (M : Elaborated) (c : Context V) (F : Functions V) where
   abbrev mutual
     -- What a statement does, by whether a condition over it is biased, and by the place of its first expression. A block's
     -- variables were set before the evaluation. A loop makes at most as many turns as the bound says at each entry.
-    pub run : Bool → ℕ → Statement → State V → Outcome Reason (State V)
+    pub run : Bool → ℕ → Statement → State V → Outcome E (State V)
     run biased place (null at) s = gives s
     run biased place (block at label declarations body) s = run_all biased (place + sizes (declared declarations)) body s
     run biased place (only_if at test a) s = do
@@ -124,13 +123,13 @@ module _ {V : Type 0} (M : Elaborated) (c : Context V) (F : Functions V) where
       run_case (under_all M biased (selector ∷ item_values items)) (place + size selector) v items (run_default (under_all M biased (selector ∷ item_values items)) (place + size selector + items_size items) defaults) s
     run biased place (for_loop at target first test target' step body) s = do
       begun ← assign_value (M.meaning target.at) place first s
-      while_turns Turns (test_of (place + size first) test) (λ t. run (under M biased test) (place + size first + size test + size step) body t >>= assign_value (M.meaning target'.at) (place + size first + size test) step) c.bound begun
+      while_turns (c.stops Turns) (test_of (place + size first) test) (λ t. run (under M biased test) (place + size first + size test + size step) body t >>= assign_value (M.meaning target'.at) (place + size first + size test) step) c.bound begun
     run biased place (while_loop at test body) s =
-        while_turns Turns (test_of place test) (run (under M biased test) (place + size test) body) c.bound s
+        while_turns (c.stops Turns) (test_of place test) (run (under M biased test) (place + size test) body) c.bound s
     run biased place (repeat_loop at count body) s = do
       v ← value_of M c F place count s.variables
-      k ← to_integer c.ops v
-      repeated Turns c.bound k (run (under M biased count) (place + size count) body) s
+      k ← told c (to_integer c.ops v)
+      repeated (c.stops Turns) c.bound k (run (under M biased count) (place + size count) body) s
     run biased place (event at InitialStep analyses body) s = run biased place body s
     run biased place (event at FinalStep analyses body) s = gives s
     run biased place (assign at target value) s = assign_value (M.meaning at) place value s
@@ -140,17 +139,17 @@ module _ {V : Type 0} (M : Elaborated) (c : Context V) (F : Functions V) where
     run biased place (task at bytes args) s = gives s
 
     -- one statement after the other
-    pub run_all : Bool → ℕ → Statements → State V → Outcome Reason (State V)
+    pub run_all : Bool → ℕ → Statements → State V → Outcome E (State V)
     run_all biased place no_more s = gives s
     run_all biased place (statement_then first rest) s = run biased place first s >>= run_all biased (place + statement_size first) rest
 
     -- the first item that has the value, else what the default does
-    pub run_case : Bool → ℕ → Number V → Items → (State V → Outcome Reason (State V)) → State V → Outcome Reason (State V)
+    pub run_case : Bool → ℕ → Number V → Items → (State V → Outcome E (State V)) → State V → Outcome E (State V)
     run_case biased place v no_items otherwise s = otherwise s
     run_case biased place v (item_then at values body rest) otherwise s = do
       chosen ← is_among place values v s
       if chosen then run biased (place + sizes values) body s else run_case biased (place + sizes values + statement_size body) v rest otherwise s
 
-    pub run_default : Bool → ℕ → Defaults → State V → Outcome Reason (State V)
+    pub run_default : Bool → ℕ → Defaults → State V → Outcome E (State V)
     run_default biased place no_defaults s = gives s
     run_default biased place (default_then at body rest) s = run biased place body s

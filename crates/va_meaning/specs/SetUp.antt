@@ -13,8 +13,8 @@ use Rattle.va_tree.specs.Expressions.{Expression, literal, infinity, name, group
 use Rattle.va_meaning.specs.Elaborated.{Elaborated, Parameter, Range, from, exclude, exclude_value, Interval, End}
 use Rattle.va_meaning.specs.Evaluation.{evaluated}
 use Rattle.va_meaning.specs.Rows.{row}
-use Rattle.va_meaning.specs.Points.{Point, Context, State}
-use Rattle.va_meaning.specs.Values.{Result, no_value, value_of}
+use Rattle.va_meaning.specs.Points.{Point, Context, Result, State, unanswered}
+use Rattle.va_meaning.specs.Values.{no_value, value_of}
 
 -- What is given for the parameters, by their numbers: on the model, and on the instance.
 pub record Settings (V : Type 0) : Type 0 where
@@ -28,21 +28,22 @@ else_given None other = other
 
 module _ {V : Type 0} (M : Elaborated) (o : Operations V) where
   -- What a set-up knows where the first parameters have these values: nothing else than them.
-  abbrev pub knowing : List (Number V) → Context V
+  abbrev pub knowing : List (Number V) → Context Reason V
   knowing values = record {
     ops = o;
     derivative = o.zero;
     point = record { parameters = λ p. get_or values p (no_value o); given = λ p. false; temperature = o.zero; unknowns = λ i. o.zero };
     bound = 0;
-    answers = λ k. o.zero;
+    stops = λ reason. reason;
+    answers = unanswered o;
   }
 
   -- the value of a constant expression over the values of parameters
-  abbrev pub constant_value : List (Number V) → Expression → Result V
+  abbrev pub constant_value : List (Number V) → Expression → Result Reason V
   constant_value values e = value_of M (knowing values) (λ f outs. gives (no_value o)) 0 e (λ x. no_value o)
 
   -- a parameter's value: the given one, else the default over the values before it, converted to the parameter's type
-  abbrev pub parameter_value : List (Number V) → Parameter → Option (Number V) → Result V
+  abbrev pub parameter_value : List (Number V) → Parameter → Option (Number V) → Result Reason V
   parameter_value before p (Some v) = gives v
   parameter_value before p None = constant_value before p.default >>= converted o p.ty
 
@@ -162,7 +163,7 @@ pub record Answer (V : Type 0) : Type 0 where
   pub last : State (Dual V)
   pub rows : List (Dual V)
 
-abbrev pub evaluated_after : {V : Type 0} → Elaborated → Context (Dual V) → Level V → Level V → Outcome Reason (Answer V)
+abbrev pub evaluated_after : {V : Type 0} → Elaborated → Context Reason (Dual V) → Level V → Level V → Outcome Reason (Answer V)
 evaluated_after M c model instance = do
   last ← evaluated M c
   gives (record { model = model; instance = instance; last = last; rows = map (row M c last) M.unknowns })

@@ -6,4 +6,4 @@ use Rattle.va_meaning.proofs.laws.depths_of_functions.Goals as goal
 pub returns : goal.returns
 returns g c =
     let a = g.A.Algebra in
-    at_four a.ops a.valid a.unit a.laws DepthsOfFunctions (λ D e v u l. depths_of_functions e v)
+    at_four a.ops a.valid a.unit a.laws (DepthsOfFunctions _) (λ D e v u l. depths_of_functions e v)

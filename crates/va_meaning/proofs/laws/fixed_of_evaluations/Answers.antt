@@ -6,4 +6,4 @@ use Rattle.va_meaning.proofs.laws.fixed_of_evaluations.Goals as goal
 pub returns : goal.returns
 returns g c =
     let a = g.A.Algebra in
-    at_four a.ops a.valid a.unit a.laws FixedOfEvaluations (λ D e v u l. fixed_of_evaluations e v)
+    at_four a.ops a.valid a.unit a.laws (FixedOfEvaluations _) (λ D e v u l. fixed_of_evaluations e v)

@@ -6,4 +6,4 @@ use Rattle.va_meaning.proofs.laws.lifts_of_evaluations.Goals as goal
 pub returns : goal.returns
 returns g c =
     let a = g.A.Algebra in
-    at_three a.ops a.valid a.unit a.laws LiftsOfEvaluations (λ D e v u l. lifts_of_evaluations e v u l)
+    at_three a.ops a.valid a.unit a.laws (LiftsOfEvaluations _) (λ D e v u l. lifts_of_evaluations e v u l)

@@ -6,4 +6,4 @@ use Rattle.va_meaning.proofs.laws.mains_of_evaluations.Goals as goal
 pub returns : goal.returns
 returns g c =
     let a = g.A.Algebra in
-    at_three a.ops a.valid a.unit a.laws MainsOfEvaluations (λ D e v u l. mains_of_evaluations e v)
+    at_three a.ops a.valid a.unit a.laws (MainsOfEvaluations _) (λ D e v u l. mains_of_evaluations e v)

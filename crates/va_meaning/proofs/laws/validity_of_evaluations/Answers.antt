@@ -6,4 +6,4 @@ use Rattle.va_meaning.proofs.laws.validity_of_evaluations.Goals as goal
 pub returns : goal.returns
 returns g c =
     let a = g.A.Algebra in
-    at_four a.ops a.valid a.unit a.laws ValidityOfEvaluations (λ D e v u l. validity_of_evaluations e v u l)
+    at_four a.ops a.valid a.unit a.laws (ValidityOfEvaluations _) (λ D e v u l. validity_of_evaluations e v u l)
