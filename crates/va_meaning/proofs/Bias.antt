@@ -259,7 +259,7 @@ module _ (M : Elaborated) (biased : ℕ → Bool) where
 
       defaults_fixed : (b : Bool) (defaults : Defaults) → bias.DefaultsKeep M biased b defaults → DefaultsKeep M single fixed_slots b b defaults
       defaults_fixed b no_defaults h = tt
-      defaults_fixed b (default_then at body rest) h = keeps_fixed b body h
+      defaults_fixed b (default_then at body rest) h = keeps_fixed b body h.0
 
     blocks_fixed : (blocks : List Statement) → bias.BlocksKeep M biased blocks → BlocksKeep M single fixed_slots blocks
     blocks_fixed [] h = tt
@@ -273,15 +273,15 @@ module _ (M : Elaborated) (biased : ℕ → Bool) where
   }
 
   -- equal arguments have equal answers
-  arguments_equal : {E V : Type 0} (outs outs' : List (Result E V)) → ListsRelated (ResultsRelated same_ends ◌≡◌) outs outs' → outs ≡ outs'
-  arguments_equal [] [] none_more = refl
-  arguments_equal (out ∷ outs) (out' ∷ outs') (one_more h hs) = λ j. result_equal out out' h j ∷ arguments_equal outs outs' hs j
+  arguments_equal : {E V : Type 0} {outs outs' : List (Result E V)} → ListsRelated (ResultsRelated same_ends ◌≡◌) outs outs' → outs ≡ outs'
+  arguments_equal none_more = refl
+  arguments_equal (one_more h hs) = λ j. result_equal h j ∷ arguments_equal hs j
     where
-      result_equal : {E V : Type 0} (a b : Result E V) → ResultsRelated same_ends ◌≡◌ a b → a ≡ b
-      result_equal a b (both_give h) = ap gives (numbers_equal h)
-      result_equal a b (both_end h) = ap ends h
-      result_equal a b (first_ends h) = absurd h
-      result_equal a b (second_ends h) = absurd h
+      result_equal : {E V : Type 0} {a b : Result E V} → ResultsRelated same_ends ◌≡◌ a b → a ≡ b
+      result_equal (both_give h) = ap gives (numbers_equal h)
+      result_equal (both_end h) = ap ends h
+      result_equal (first_ends h) = absurd h
+      result_equal (second_ends h) = absurd h
 
   equal_context : {E V : Type 0} (c : Context E V) (u : ℕ → V) → ContextsInClasses same_ends single (λ k x y. x ≡ y) fixed_slots c (at_unknowns c u)
   equal_context {E} {V} c u = record {
@@ -298,7 +298,7 @@ module _ (M : Elaborated) (biased : ℕ → Bool) where
     bound = inl refl;
     stops = λ reason. refl;
     answers = λ number outs outs' h.
-        subst (λ (xs : List (Result E V)). Alike same_ends ◌≡◌ (c.answers number outs) (c.answers number xs)) (arguments_equal outs outs' h) (alike_itself (c.answers number outs));
+        subst (λ (xs : List (Result E V)). Alike same_ends ◌≡◌ (c.answers number outs) (c.answers number xs)) (arguments_equal h) (alike_itself (c.answers number outs));
   }
 
   same_fixed : {V : Type 0} (s t : State V) → StatesInClasses M (λ k x y. x ≡ y) fixed_slots s t → SameFixed M biased s t

@@ -70,12 +70,12 @@ module _ {C : Type 0} (M : Elaborated) (K : Classes C) (ordered : AreOrdered K) 
   name_any l up (Some (Var x)) = variable_any l up (M.variable_type x)
   name_any l up m = tt
 
-  operator_any : (l : C) → K.below k l → (op : BinaryOp) (left right : C → Type 0) → ((j : C) → K.below k j → left j) → ((j : C) → K.below k j → right j) → OperatorIn K l op left right
+  pub operator_any : (l : C) → K.below k l → (op : BinaryOp) (left right : C → Type 0) → ((j : C) → K.below k j → left j) → ((j : C) → K.below k j → right j) → OperatorIn K l op left right
   operator_any l up Add left right f h = (f l up, h l up)
   operator_any l up Subtract left right f h = (f l up, h l up)
   operator_any l up Multiply left right f h = (k, k, ordered.products k l closed up, f k (ordered.itself k), h k (ordered.itself k))
   operator_any l up Divide left right f h = (k, k, ordered.products k l closed up, closed, f k (ordered.itself k), h k (ordered.itself k))
-  operator_any l up Power left right f h = (k, closed, up, f k (ordered.itself k), h k (ordered.itself k))
+  operator_any l up Power left right f h = (k, closed, up, (f k (ordered.itself k), h k (ordered.itself k)))
   operator_any l up Or left right f h = (f K.top (ordered.to_top k), h K.top (ordered.to_top k))
   operator_any l up And left right f h = (f K.top (ordered.to_top k), h K.top (ordered.to_top k))
   operator_any l up Equal left right f h = (f K.top (ordered.to_top k), h K.top (ordered.to_top k))
@@ -219,7 +219,7 @@ module _ {C : Type 0} (M : Elaborated) (K : Classes C) (ordered : AreOrdered K) 
 
     defaults_keep : (b : Bool) (defaults : Defaults) → DefaultsRunOnly M (MayCall K k) defaults → DefaultsKeep M K (uniform k) b false defaults
     defaults_keep b no_defaults i = tt
-    defaults_keep b (default_then at body rest) i = (everything_keeps b body i.0, defaults_keep b rest i.1)
+    defaults_keep b (default_then at body rest) i = everything_keeps b body i.0
 
 module _ {E E' V W C : Type 0} (g : Endings E E') (closed : IsClosed g) (M : Elaborated) (K : Classes C) (ordered : AreOrdered K) (R : C → V → W → Type 0) where
   -- where functions and initialisers are evaluated

@@ -196,18 +196,18 @@ module _ {E E' V W C : Type 0} (g g' : Endings E E') (closed : IsClosed g) (clos
   bound_up = bounds_up g g' weaker (c.stops Turns) c.bound d.bound h.bound
 
   left_itself : (s : State V) → Left s s
-  left_itself s = record { variables = λ x. always (slots.variable x); held = λ b. always (slots.held b); marks = λ b i. refl }
+  left_itself s = record { variables = λ x. always (s.variables x) (slots.variable x); held = λ b. always (s.held b) (slots.held b); marks = λ b i. refl }
     where
-      always : {A : Type 0} {x : A} (known : Option C) → IfSure (λ k. x ≡ x) known
-      always None = tt
-      always (Some k) = refl
+      always : {A : Type 0} (x : A) (known : Option C) → IfSure (λ k. x ≡ x) known
+      always x None = tt
+      always x (Some k) = refl
 
   left_itself' : (s : State W) → Left' s s
-  left_itself' s = record { variables = λ x. always (slots.variable x); held = λ b. always (slots.held b); marks = λ b i. refl }
+  left_itself' s = record { variables = λ x. always (s.variables x) (slots.variable x); held = λ b. always (s.held b) (slots.held b); marks = λ b i. refl }
     where
-      always : {A : Type 0} {x : A} (known : Option C) → IfSure (λ k. x ≡ x) known
-      always None = tt
-      always (Some k) = refl
+      always : {A : Type 0} (x : A) (known : Option C) → IfSure (λ k. x ≡ x) known
+      always x None = tt
+      always x (Some k) = refl
 
   -- two states that leave what is known of two that are related
   still_in : (s s' : State V) (t t' : State W) → In s t → Left s s' → Left' t t' → In s' t'

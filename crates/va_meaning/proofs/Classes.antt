@@ -109,7 +109,7 @@ module _ {E E' V W C : Type 0} (g : Endings E E') (closed : IsClosed g) (M : Ela
   truth_in : (k : C) (a b : Bool) → a ≡ b → NumbersRelated (R k) (truth a) (truth b)
   truth_in k a b e = raised K.rest k (ordered.from_rest k) (truth_related c.ops d.ops (R K.rest) resting a b e)
 
-  whole_outcome : (a b : Outcome Reason ℤ) → a ≡ b → OutcomesRelated (NumbersRelated (λ x u. ⊥)) (as_int a) (as_int b)
+  whole_outcome : (a b : Outcome Reason ℤ) → a ≡ b → OutcomesRelated (NumbersRelated (λ (x : V) (u : W). ⊥)) (as_int a) (as_int b)
   whole_outcome a b e = subst (λ (t : Outcome Reason ℤ). OutcomesRelated (NumbersRelated (λ (x : V) (u : W). ⊥)) (as_int a) (as_int t)) e (itself a)
     where
       itself : (a : Outcome Reason ℤ) → OutcomesRelated (NumbersRelated (λ (x : V) (u : W). ⊥)) (as_int a) (as_int a)
@@ -194,7 +194,7 @@ module _ {E E' V W C : Type 0} (g : Endings E E') (closed : IsClosed g) (M : Ela
         both_in K.top K.top _ _ (λ v w v' w' p q. by_type_in K.top K.top (OutcomesRelated (NumbersRelated (R k))) _ _ _ _ (λ z y. integer_in k (int_remainder z y))
         (λ x y u v p q. outcomes_give integers) p q) i.0 i.1
     operator_in Power i =
-        both_in i.0 i.0 _ _ (λ v w v' w' p q. outcomes_weaker (NumbersRelated (R i.0)) (NumbersRelated (R k)) (λ v w r. raised i.0 k i.2 r) (power_of_related c.ops d.ops (R i.0) (h.ops i.0 i.1) p q)) i.3 i.4
+        both_in i.0 i.0 _ _ (λ v w v' w' p q. outcomes_weaker (NumbersRelated (R i.0)) (NumbersRelated (R k)) (λ v w r. raised i.0 k i.2 r) (power_of_related c.ops d.ops (R i.0) (h.ops i.0 i.1) p q)) i.3.0 i.3.1
 
   -- names and accesses
   variable_in : (k : C) (ty : Ty) (known : Option C) (v : Number V) (w : Number W) → VariableIn M K slots k ty known → IfSure (λ l. ValuesIn R ty l v w) known

@@ -27,9 +27,8 @@ use Rattle.va_meaning.specs.Points.{Point, Result, Answers, State, over, unanswe
 use Rattle.va_meaning.specs.Related.{same_ends, more_turns, Alike, both_give, AnswersRelated, PointsRelated, ContextsRelated, StatesRelated}
 use Rattle.va_meaning.specs.Residuals.{lifted_point, moved_point, in_parts}
 use Rattle.va_meaning.specs.Rows.{residuals}
-use Rattle.va_meaning.proofs.Endings.{same_closed, more_closed, told_ends, told_closed, told_equal, same_related, gives_more, ends_more, alike_weaker, same_itself, itself, states_equal, lists_equal, outcomes_themselves}
-use Rattle.va_meaning.proofs.Fixed.{evaluated_both}
-use Rattle.va_meaning.proofs.Partial.{both_gave}
+use Rattle.va_meaning.proofs.Endings.{same_closed, more_closed, both_gave, told_ends, told_closed, told_equal, same_related, gives_more, ends_more, alike_weaker, same_itself, itself, states_equal, lists_equal, outcomes_themselves}
+use Rattle.va_meaning.proofs.Bias.{evaluated_fixed}
 use Rattle.va_meaning.proofs.Nesting.{functions_same}
 use Rattle.va_meaning.proofs.Related.{functions_related, evaluated_related, residuals_related}
 
@@ -114,11 +113,11 @@ depths_of_functions o valid = record {
 pub fixed_of_evaluations : {E V : Type 0} (o : Operations V) (valid : V → Type 0) → FixedOfEvaluations E V o valid
 fixed_of_evaluations o valid = record {
   evaluation = λ M biased h s P n stops answers unknowns last other e f.
-      both_gave (SameFixed M biased) _ _ last other (evaluated_both M biased h (over o s P n stops answers) unknowns) e f;
+      both_gave (SameFixed M biased) last other (evaluated_fixed M biased h (over o s P n stops answers) unknowns) e f;
   modules = λ t number m s P n stops answers unknowns last other e f.
       let M = module_seen t number m in
       let biased = (analysis_of (names_of_module t number m) (analog_bodies m)).biased in
-      both_gave (SameFixed M biased) _ _ last other (evaluated_both M biased (elaboration_laws.bias t number m) (over o s P n stops answers) unknowns) e f;
+      both_gave (SameFixed M biased) last other (evaluated_fixed M biased (elaboration_laws.bias t number m) (over o s P n stops answers) unknowns) e f;
 }
 
 module _ {V : Type 0} (o : Operations V) (valid unit : V → Type 0) (l : IsAlgebra o valid unit) where

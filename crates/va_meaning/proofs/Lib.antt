@@ -11,7 +11,6 @@ pub mod Elaborated
 pub mod Endings
 pub mod EvaluationLaws
 pub mod Everywhere
-pub mod Fixed
 pub mod Invariants
 pub mod Motions
 pub mod Nesting

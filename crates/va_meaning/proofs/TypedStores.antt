@@ -22,7 +22,7 @@ use Rattle.va_meaning.specs.Values.{Functions, value_of}
 use Rattle.va_meaning.proofs.Partial.{IfGives, anything, then_if, chosen_if, turns_if, while_if}
 use Rattle.va_meaning.proofs.Types.{told_typed, zero_typed}
 
-module _ {E V : Type 0} (M : Elaborated) where
+module _ {V : Type 0} (M : Elaborated) where
   -- a variable with a value of its type
   set_typed : (x : ℕ) (v : Number V) (vars : Store V) → type_of_number v ≡ M.variable_type x → IsTypedStore M vars → IsTypedStore M (with_variable vars x v)
   set_typed x v vars h k y = by_test (y == x) refl
@@ -35,7 +35,7 @@ module _ {E V : Type 0} (M : Elaborated) where
   abbrev IsTypedState : State V → Type 0
   IsTypedState s = IsTypedStore M s.variables
 
-  module _ (c : Context E V) (F : Functions E V) where
+  module _ {E : Type 0} (c : Context E V) (F : Functions E V) where
     assigned_typed : (m : Option Meaning) (v : Number V) (s : State V) → IsTypedState s → IfGives IsTypedState (assigned M c F m v s)
     assigned_typed (Some (Var x)) v s k =
         then_if (λ (w : Number V). type_of_number w ≡ M.variable_type x) IsTypedState (told c (converted c.ops (M.variable_type x) v)) _ (told_typed c (M.variable_type x) v)
@@ -135,11 +135,11 @@ module _ {E V : Type 0} (M : Elaborated) where
         then_if IsTypedState IsTypedState (run M c F false place p s) _ (run_typed false place p s k) (λ s k. blocks_typed (place + statement_size p) ps s k)
 
   -- what functions give has the type of their results
-  pub functions_typed : (c : Context E V) (depth f : ℕ) (outs : List (Result E V)) → IfGives (λ v. type_of_number v ≡ result_type (slice_get M.functions f)) (functions_to M c depth f outs)
+  pub functions_typed : {E : Type 0} (c : Context E V) (depth f : ℕ) (outs : List (Result E V)) → IfGives (λ v. type_of_number v ≡ result_type (slice_get M.functions f)) (functions_to M c depth f outs)
   functions_typed c zero f outs = tt
   functions_typed c (suc depth) f outs = function_typed c (functions_to M c depth) (slice_get M.functions f) outs
 
-  pub evaluated_typed : (c : Context E V) → IfGives IsTypedState (evaluated M c)
+  pub evaluated_typed : {E : Type 0} (c : Context E V) → IfGives IsTypedState (evaluated M c)
   evaluated_typed c =
       let F = functions M c in
       then_if (IsTypedStore M) IsTypedState (initialised M (without_unknowns c) F M.initialisers (zeros M c.ops)) _ (initialised_typed (without_unknowns c) F M.initialisers (zeros M c.ops) (zeros_typed (without_unknowns c) F))

@@ -256,7 +256,7 @@ module _ {C : Type 0} (M : Elaborated) (K : Classes C) (slots : Slots C) where
 
     pub DefaultsKeep : Bool → Bool → Defaults → Type 0
     DefaultsKeep biased here no_defaults = Unit {0}
-    DefaultsKeep biased here (default_then at body rest) = Keeps biased here body × DefaultsKeep biased here rest
+    DefaultsKeep biased here (default_then at body rest) = Keeps biased here body
 
   abbrev pub BlocksKeep : List Statement → Type 0
   BlocksKeep [] = Unit {0}
