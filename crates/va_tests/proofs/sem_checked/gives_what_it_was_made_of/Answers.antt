@@ -19,8 +19,8 @@ lone_tokens i j at p q =
     let second : j < 1 = slice_get_within (names_in_source lone_module) j at q in
     omega (arith, first, second)
 
-pub seal-requires-clause-size : goal.seal-requires-clause-size
-seal-requires-clause-size c = subst IsOfSize (sym c.in_ok-source.ensures) lone_size
+pub seal-sealed-requires-clause-size : goal.seal-sealed-requires-clause-size
+seal-sealed-requires-clause-size c = subst IsOfSize (sym c.in_ok-source.ensures) lone_size
 
-pub seal-requires-clause-tokens : goal.seal-requires-clause-tokens
-seal-requires-clause-tokens c = subst EachNameHasItsToken (sym c.in_ok-source.ensures) lone_tokens
+pub seal-sealed-requires-clause-tokens : goal.seal-sealed-requires-clause-tokens
+seal-sealed-requires-clause-tokens c = subst EachNameHasItsToken (sym c.in_ok-source.ensures) lone_tokens
