@@ -20,7 +20,7 @@ lone_tokens i j at p q =
     omega (arith, first, second)
 
 pub seal-sealed-requires-clause-size : goal.seal-sealed-requires-clause-size
-seal-sealed-requires-clause-size c = subst IsOfSize (sym c.in_ok-source.ensures) lone_size
+seal-sealed-requires-clause-size g c = subst IsOfSize (sym c.in_ok-source.ensures) lone_size
 
 pub seal-sealed-requires-clause-tokens : goal.seal-sealed-requires-clause-tokens
-seal-sealed-requires-clause-tokens c = subst EachNameHasItsToken (sym c.in_ok-source.ensures) lone_tokens
+seal-sealed-requires-clause-tokens g c = subst EachNameHasItsToken (sym c.in_ok-source.ensures) lone_tokens
