@@ -3,7 +3,7 @@ ghost use Rattle.std.specs.Prelude.{◌≡◌};
 ghost use Rattle.alg_laws.specs.Dual.{slope, slope_first, slope_second};
 
 use crate::compute::Compute;
-use crate::copies::copies_of_one;
+use crate::literals::copies_of_one;
 use alg_laws::{Fun1, Fun2};
 
 /// The derivative of a function of one argument.

@@ -1,6 +1,6 @@
 use Rattle.std.proofs.Common.{sym, ◌∙◌, ◌/◌, arith}
 use Rattle.alg_run.proofs.Halves.{even, odd}
-use Rattle.alg_run.proofs.copies.+copies_of_one.Goals as goal
+use Rattle.alg_run.proofs.literals.+copies_of_one.Goals as goal
 
 pub returns-then-count-eq0-2 : goal.returns-then-count-eq0-2
 returns-then-count-eq0-2 g t c =
