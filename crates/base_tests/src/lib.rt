@@ -1,6 +1,8 @@
-//! Tests of the crates that all others stand on: `va_base`, `va_io`, `predict` and `graphs`.
+//! Tests of the crates that all others stand on: `va_base`, `va_io`, `predict`, `alg_run` and `graphs`.
 #![tactic(auto)]
 
+#[cfg(test)]
+mod computing;
 #[cfg(test)]
 mod files;
 #[cfg(test)]
