@@ -102,8 +102,9 @@ here_itself n = by (eqb_tells n n)
 -- the name of a module is one of its names
 own_name : (m : Module) → 1 ≤ times m.at (names_in_module m)
 own_name m =
-    let rest : List ℕ = tokens_of m.ports ++ flat_map names_in_item m.items in
-    omega (arith, times_append m.at (names_in_attributes m.attributes) (m.at ∷ rest), here_itself m.at)
+    let before : List ℕ = names_in_attributes m.attributes in
+    let head : List ℕ = m.at ∷ tokens_of m.ports in
+    omega (arith, times_append m.at (before ++ head) (flat_map names_in_item m.items), times_append m.at before head, here_itself m.at)
 
 module_named : (ms : List Module) (k : ℕ) (m : Module) → slice_get ms k ≡ Some m → 1 ≤ times m.at (flat_map names_in_module ms)
 module_named [] k m e = absurd (cc (e))
