@@ -18,7 +18,7 @@ use Rattle.va_tree.specs.declared.module.Module.{Module}
 use Rattle.va_tree.specs.declared.source.Source.{Source}
 use Rattle.va_tree.specs.OrderedNames.{ordered_in_source, Ascend, HasNamesInOrder}
 use Rattle.va_tree.specs.OwnTokens.{tokens_of, names_in_attributes, names_in_item, names_in_module, names_in_nature, names_in_discipline, names_in_source}
-use Rattle.va_tree.proofs.OwnNames.{here, times, times_append, source_as_often}
+use Rattle.va_tree.proofs.OwnNames.{times, times_append, times_some, source_as_often}
 
 -- an index that is there is not above this one
 abbrev pub IsWithin : ℕ → Option ℕ → Type 0
@@ -69,20 +69,23 @@ long_below : (e : Expanded) (o : Option ℕ) → IsFirst (IsLong e) o → IsBelo
 long_below e None h = tt
 long_below e (Some at) h = (let t = long_token e (slice_get e.tokens at) h.0 in slice_get_within e.tokens at t.0 t.1)
 
-not_at : (x n : ℕ) → x < n → here (x == n) ≡ 0
+-- a number that is another's isn't counted
+times_other : (n x : ℕ) (xs : List ℕ) → x == n ≡ false → times n (x ∷ xs) ≡ times n xs
+times_other n x xs h = rw (h) (omega arith)
+
+not_at : (x n : ℕ) → x < n → x == n ≡ false
 not_at x n less = by (eqb_tells x n)
   where
-    by : ((x == n ≡ true) × (x ≡ n)) ⊎ ((x == n ≡ false) × (x ≢ n)) → here (x == n) ≡ 0
+    by : ((x == n ≡ true) × (x ≡ n)) ⊎ ((x == n ≡ false) × (x ≢ n)) → x == n ≡ false
     by (inl h) = absurd (let e = h.1 in let n : ⊥ = omega (arith, less, e) in n)
-    by (inr h) = ap here h.0
+    by (inr h) = h.0
 
 -- what is not below the end of ascending numbers is none of them
 none_above : (n a : ℕ) (xs : List ℕ) (b : ℕ) → b ≤ n → Ascend a xs b → times n xs ≡ 0
 none_above n a [] b less h = refl
 none_above n a (x ∷ xs) b less h =
     let last : x + 1 ≤ b = reaches (x + 1) xs b h.1 in
-    let zero_here : here (x == n) ≡ 0 = not_at x n (omega (arith, last, less)) in
-    omega (arith, zero_here, none_above n (x + 1) xs b less h.1)
+    times_other n x xs (not_at x n (omega (arith, last, less))) ∙ none_above n (x + 1) xs b less h.1
   where
     reaches : (c : ℕ) (ys : List ℕ) (d : ℕ) → Ascend c ys d → c ≤ d
     reaches c [] d k = k
@@ -92,19 +95,13 @@ below_by : (n count : ℕ) (xs : List ℕ) (lower : Bool) → nat_lt n count ≡
 below_by n count xs true e h some = ltb-true n count e
 below_by n count xs false e h some = absurd (let none : times n xs ≡ 0 = none_above n 0 xs count (ltb-false n count e) h in let no : ⊥ = omega (arith, none, some) in no)
 
-here_itself : (n : ℕ) → here (n == n) ≡ 1
-here_itself n = by (eqb_tells n n)
-  where
-    by : ((n == n ≡ true) × (n ≡ n)) ⊎ ((n == n ≡ false) × (n ≢ n)) → here (n == n) ≡ 1
-    by (inl h) = ap here h.0
-    by (inr h) = absurd (h.1 refl)
-
 -- the name of a module is one of its names
 own_name : (m : Module) → 1 ≤ times m.at (names_in_module m)
 own_name m =
     let before : List ℕ = names_in_attributes m.attributes in
     let head : List ℕ = m.at ∷ tokens_of m.ports in
-    omega (arith, times_append m.at (before ++ head) (flat_map names_in_item m.items), times_append m.at before head, here_itself m.at)
+    let itself : 1 ≤ times m.at head = times_some m.at 0 head refl in
+    omega (arith, times_append m.at (before ++ head) (flat_map names_in_item m.items), times_append m.at before head, itself)
 
 module_named : (ms : List Module) (k : ℕ) (m : Module) → slice_get ms k ≡ Some m → 1 ≤ times m.at (flat_map names_in_module ms)
 module_named [] k m e = absurd (cc (e))

@@ -32,8 +32,8 @@ returns-in-None-clause-none c = λ eq s is.
     (source_names c.args.e.now s c.args.tree.now c.nodes.result.now c.in_ok-found.found.extra c.requires.parsed c.nodes.ensures is (c.in_ok-found.ensures.extra c.args.e.now))
     (sym c.earliest-first.ensures ∙ c.in-None.is)
 
-pub fault_at-requires : goal.fault_at-requires
-fault_at-requires c =
+pub fault_at-fault-requires : goal.fault_at-fault-requires
+fault_at-fault-requires c =
     let p = c.requires.parsed in
     let s : Source = source_of c.args.e.now p.tree in
     let is = parsed_source c.args.e.now c.args.tree.now p in
