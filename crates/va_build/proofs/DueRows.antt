@@ -182,6 +182,16 @@ mutual
   width_of_spelled (token k parts) = omega (arith, width_of_spelled parts)
   width_of_spelled (subtree t parts) = omega (arith, width_spelled t, width_of_spelled parts, length-append (spelling t) (spelling_of parts))
 
+-- a text has the tokens that its tree spells, and its end
+pub text_wide : (e : Expanded) (all nodes : List ParseNode) → IsParsed va_rules (kinds_of e) all → nodes ≡ all → width (first_tree (trees_of nodes)) + 1 ≡ length e.tokens
+text_wide e all nodes p same =
+    let is : trees_of nodes ≡ p.tree ∷ [] = ap trees_of same ∙ parsed_back (kinds_of e) all p in
+    let wide : width (first_tree (trees_of nodes)) ≡ length (spelling p.tree) = ap (λ (ts : List Tree). width (first_tree ts)) is ∙ width_spelled p.tree in
+    let spelled : length (spelling p.tree) ≡ length p.sentence.0 = ap length p.sentence.2.spelled in
+    let kinds : length (kinds_of e) ≡ length p.sentence.0 + 1 = ap length p.sentence.1 ∙ length-append p.sentence.0 (va_rules.end_kind ∷ []) in
+    let tokens : length (kinds_of e) ≡ length e.tokens = length-map e.tokens (kind_in e.files) in
+    omega (arith, wide, spelled, kinds, tokens)
+
 -- the tree of a whole text is due
 pub text_due : (e : Expanded) (all : List ParseNode) → IsExpanded e → IsParsed va_rules (kinds_of e) all → (a : Ahead) → a.nodes ≡ all → a.at ≡ 0 → AreDue (Left 0 ∷ []) a
 unfolding va_rules

@@ -28,3 +28,4 @@ pub mod OrderedExpressions
 pub mod OrderedStatements
 pub mod OrderedItems
 pub mod OrderedText
+pub mod SizePlaces

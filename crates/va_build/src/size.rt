@@ -3,7 +3,7 @@
 //! A node of the source tree may have the depth 500: so many statements, expressions and parentheses are around it and it itself.
 //! A word or a string may have 1024 bytes, and a text 64 modules. The parse tree is looked through without recursion, so a text
 //! that is nested deeper costs no stack.
-ghost use Rattle.std.specs.Prelude.{◌≡◌, nat_lt, Some, None, Ok, IfOk};
+ghost use Rattle.std.specs.Prelude.{◌≡◌, ◌<◌, length, nat_lt, Some, None, Ok};
 ghost use Rattle.predict.specs.Sentence.{IsParsed};
 ghost use Rattle.va_base.specs.Expansion.{IsExpanded};
 ghost use Rattle.va_base.specs.declared.fault.Fault.{Fault};
@@ -18,7 +18,7 @@ ghost use Rattle.va_tree.specs.declared.source.Source.{Source};
 
 use crate::size_scan::{Found, scan};
 use predict::ParseTree;
-use std::alloc::{AllocError, Global};
+use std::alloc::Global;
 use va_base::{Expanded, Fault, FaultCode, NoMemory, Phase, TokenKind};
 
 /// How many bytes a word or a string may have.
@@ -42,7 +42,7 @@ pub(crate) fn size_fault(
     match first {
         None => Ok(None),
         Some(stands) => {
-            let fault = fault_at(e, stands)?;
+            let fault = fault_at(e, stands);
             Ok(Some(fault))
         }
     }
@@ -86,18 +86,19 @@ fn sooner(a: Option<Standing>, b: Option<Standing>) -> Option<Standing>
     }
 }
 
-/// The fault with its place.
-fn fault_at(e: &Expanded, stands: Standing) -> Result<Fault, AllocError>
-    ensures { IfOk result (IsFaultAt e.now stands) }
+/// The fault with the place of its token, which the text has.
+fn fault_at(e: &Expanded, stands: Standing) -> Fault
+    requires { stands.at < length e.now.tokens }
+    ensures { IsFaultAt e.now stands result }
 {
     match e.tokens.as_list().get(stands.at as usize) {
-        Some(token) => Ok(Fault {
+        Some(token) => Fault {
             phase: Phase::Size,
             at: stands.at,
             place: token.place,
             code: stands.code,
-        }),
-        None => Err(AllocError),
+        },
+        None => unreachable!(),
     }
 }
 

@@ -1,7 +1,7 @@
 //! Where the first node of depth 501 begins and where the 65th module has its name, read from a parse tree without recursion.
 //!
 //! A depth or a number of operators that does not fit 32 bits is answered as want of memory is: no tree so deep fits.
-ghost use Rattle.std.specs.Prelude.{◌≡◌, ◌≤◌, ℕ, [], ◌∷◌, ◌++◌, List, map, reverse, slice_get, IfOk, OnOk, MatchOption};
+ghost use Rattle.std.specs.Prelude.{◌≡◌, ◌≤◌, ℕ, [], ◌∷◌, ◌++◌, List, map, reverse, slice_get, IfOk, IfSome, OnOk, MatchOption};
 ghost use Rattle.predict.specs.declared.symbol.Symbol.TheVariants.{Left};
 ghost use Rattle.va_base.specs.declared.expanded.Expanded.{Expanded};
 ghost use Rattle.va_grammar.specs.Parts.{symbol_of};
@@ -37,6 +37,7 @@ pub(crate) fn scan(alloc: Global, nodes: &[ParseNode]) -> Result<Found, AllocErr
     requires whole { later_trees (trees_of nodes.now) ≡ [] }
     requires fits { width (first_tree (trees_of nodes.now)) ≤ 2000000 }
     ensures deep { IfOk result (λ f. (e : Expanded) → f.deep ≡ depths.deep_in e 0 1 0 (first_tree (trees_of nodes.now))) }
+    ensures within { IfOk result (λ f. IfSome f.deep (λ at. at ≤ width (first_tree (trees_of nodes.now)))) }
     ensures extra { IfOk result (λ f. (e : Expanded) → f.extra ≡ slice_get (depths.modules_in e 0 0 (first_tree (trees_of nodes.now))) 64) }
 {
     let mut links = tree_links(alloc, nodes)?;

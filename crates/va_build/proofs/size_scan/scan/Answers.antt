@@ -12,7 +12,9 @@ use Rattle.va_build.specs.Due.{AreDerived}
 use Rattle.va_build.specs.SizeScan.{many, symbols_due, symbols_width, SameDue, NothingDue, ComesNext}
 use Rattle.va_build.specs.declared.size_rules.Due.{Due}
 use Rattle.va_build.specs.declared.size_rules.Rule.{Rule}
+use Rattle.va_build.specs.Width.{width}
 use Rattle.va_build.proofs.SizeLinks.{from_one, last_first}
+use Rattle.va_build.proofs.SizePlaces.{IsWithin, found_within}
 use Rattle.va_build.proofs.SizeScan.{opened, deep_step, modules_step, derived_step, behind_step, wide_step, deep_ended, extra_ended, link_due, tree_due, same_parts}
 use Rattle.va_build.proofs.size_scan.scan.Goals as goal
 
@@ -43,6 +45,8 @@ loop-node-preserved c =
     let least_is : c.least-deep.result ≡ earlier old (deep_opened (rule_of left n.row) at depth link) =
     c.least-deep.ensures ∙ ap (earlier old) (c.opened.ensures ∙ ap (λ r. deep_opened r at depth link) c.row_rule-rule.ensures) in
     let few : at + symbols_width (due (Left left) depth ∷ ds) (trees_of (n ∷ rest)) ≤ 2000000 = subst (λ (ns : List ParseNode). at + symbols_width (due (Left left) depth ∷ ds) (trees_of ns) ≤ 2000000) more (omega (arith, known.fits, same.wide (trees_of (drop i nodes)))) in
+    let whole : ℕ = width (first_tree (trees_of nodes)) in
+    let place : at + symbols_width (due (Left left) depth ∷ ds) (trees_of (n ∷ rest)) ≡ whole = subst (λ (ns : List ParseNode). at + symbols_width (due (Left left) depth ∷ ds) (trees_of ns) ≡ whole) more (omega (arith, known.place, same.wide (trees_of (drop i nodes)))) in
     let wide_is = ap (λ (l : List Due). symbols_width l (trees_of rest)) due_is ∙ wide_step left below last n rest ds in
     record {
       deep = λ e.
@@ -57,6 +61,8 @@ loop-node-preserved c =
           ∙ known.extra e;
       derived = subst (λ (l : List Due). AreDerived (symbols_due l) (trees_of rest)) (sym due_is) (derived_step left below last n rest ds derived);
       behind = ap (λ (l : List Due). trees_behind (symbols_due l) (trees_of rest)) due_is ∙ behind_step left below last n rest ds (sym (same.behind (trees_of (n ∷ rest))) ∙ ap (λ (ns : List ParseNode). trees_behind (symbols_due (reverse c.loop-node.ahead.due.items)) (trees_of ns)) (sym more) ∙ known.behind);
+      within = subst (IsWithin whole) (sym least_is) (found_within whole at (rule_of left n.row) depth link old known.within (omega (arith, place)));
+      place = omega (arith, place, wide_is, at_is);
       fits = omega (arith, few, wide_is, at_is);
       links = popped.1;
     }
