@@ -10,6 +10,7 @@ pub mod CycleSites
 pub mod Elaborated
 pub mod Endings
 pub mod EvaluationLaws
+pub mod Everything
 pub mod Everywhere
 pub mod Invariants
 pub mod Motions
