@@ -109,7 +109,7 @@ module _ {E E' V W C : Type 0} (g : Endings E E') (closed : IsClosed g) (M : Ela
       function_or_none_in (Some f) i outs outs' o = function_value_in f i outs outs' o
 
   module _ (slots : Slots C) (c : Context E V) (d : Context E' W) (h : ContextsInClasses g K R slots c d) (keeps : KeepsToClasses M K slots) where
-    functions_in : (depth more : ℕ) → BoundsRelated g (c.stops Turns) depth more
+    pub functions_in : (depth more : ℕ) → BoundsRelated g (c.stops Turns) depth more
         → FunctionsIn g K R M (functions_to M (without_unknowns c) depth) (functions_to M (without_unknowns d) more)
     functions_in zero zero bound f k k_closed outs outs' o = both_end (h.stops Turns)
     functions_in zero (suc more) (inl same) f k k_closed outs outs' o = absurd (omega (arith, same))

@@ -216,11 +216,11 @@ module _ {E E' V W C : Type 0} (g : Endings E E') (closed : IsClosed g) (M : Ela
   sure_in k x u None i p = absurd i
   sure_in k x u (Some l) i p = h.weaker l k i x u p
 
-  unknown_in : (k : C) (i : Option ℕ) → UnknownIn M K slots k i → R k (value_at c.ops c.point.unknowns i) (value_at d.ops d.point.unknowns i)
+  pub unknown_in : (k : C) (i : Option ℕ) → UnknownIn M K slots k i → R k (value_at c.ops c.point.unknowns i) (value_at d.ops d.point.unknowns i)
   unknown_in k None i = zero_in k
   unknown_in k (Some j) i = sure_in k _ _ (slots.unknown j) i (h.unknowns j)
 
-  nodes_in : (k : C) (plus : ℕ) (minus : Option ℕ) → NodesIn M K slots k plus minus
+  pub nodes_in : (k : C) (plus : ℕ) (minus : Option ℕ) → NodesIn M K slots k plus minus
       → R k (potential_between M c.ops c.point plus minus) (potential_between M d.ops d.point plus minus)
   nodes_in k plus None i = unknown_in k _ i
   nodes_in k plus (Some minus) i = h.sum k _ _ _ _ (unknown_in k _ i.0) (h.negative k _ _ (unknown_in k _ i.1))

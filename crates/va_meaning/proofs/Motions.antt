@@ -29,11 +29,11 @@ below_then still l m h i = tt
 below_then moving still m h i = absurd h
 below_then moving moving m h i = i
 
-below_itself : (k : Motion) → is_below k k
+pub below_itself : (k : Motion) → is_below k k
 below_itself still = tt
 below_itself moving = tt
 
-below_moving : (k : Motion) → is_below k moving
+pub below_moving : (k : Motion) → is_below k moving
 below_moving still = tt
 below_moving moving = tt
 
@@ -55,17 +55,17 @@ motions_ordered = record {
     moves_on moving moving h i = tt
 
 module _ {V : Type 0} (o : Operations V) (valid unit : V → Type 0) (l : IsAlgebra o valid unit) where
-  motion_kept : (k : Motion) → Relates (dual o) o (HasMotion o valid k)
+  pub motion_kept : (k : Motion) → Relates (dual o) o (HasMotion o valid k)
   motion_kept still = lifts_relate o valid unit l
   motion_kept moving = mains_relate o
 
-  motion_weaker : (k m : Motion) → is_below k m → (x : Dual V) (u : V) → HasMotion o valid k x u → HasMotion o valid m x u
+  pub motion_weaker : (k m : Motion) → is_below k m → (x : Dual V) (u : V) → HasMotion o valid k x u → HasMotion o valid m x u
   motion_weaker still still up x u h = h
   motion_weaker still moving up x u h = λ j. (h.0 j).main
   motion_weaker moving still up x u h = absurd up
   motion_weaker moving moving up x u h = h
 
-  time_moves : (s : Dual V) (k m : Motion) → motions.derives k m → (x : Dual V) (u : V) → HasMotion o valid k x u
+  pub time_moves : (s : Dual V) (k m : Motion) → motions.derives k m → (x : Dual V) (u : V) → HasMotion o valid k x u
       → HasMotion o valid m ((dual o).product s x) (o.product s.main u)
   time_moves s k still d x u h = absurd d
   time_moves s k moving d x u h = (mains_relate o).product s x s.main u refl (motion_weaker k moving (below_moving k) x u h)
@@ -99,7 +99,7 @@ module _ {V : Type 0} (o : Operations V) (valid unit : V → Type 0) (l : IsAlge
       same_ends same_closed (weaker_itself same_ends) (λ e. absurd (cc (e, sure))))
 
   -- a variable that doesn't move
-  still_part : (ty : Ty) (known : Option Motion) (v : Number (Dual V)) (w : Number V) → IfSure (λ k. ValuesIn (HasMotion o valid) ty k v w) known → known ≡ Some still
+  pub still_part : (ty : Ty) (known : Option Motion) (v : Number (Dual V)) (w : Number V) → IfSure (λ k. ValuesIn (HasMotion o valid) ty k v w) known → known ≡ Some still
       → part_of o v ≡ o.zero
   still_part ty None v w h e = absurd (cc (e))
   still_part Integer (Some k) v w h e = part_is_zero o valid (same_integers (IsLifted o valid) h)
