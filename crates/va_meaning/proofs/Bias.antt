@@ -1,6 +1,6 @@
 -- Two defined evaluations at points that differ in unknowns alone end with the same fixed variables and the same marks: what is fixed is
 -- of the one class of equal values, and nothing is known of what is biased.
-use Rattle.std.specs.Prelude.{◌≡◌, ℕ, ◌||◌, Bool, true, false, if◌then◌else◌, List, [], ◌∷◌, ◌++◌, Option, Some, None}
+use Rattle.std.specs.Prelude.{◌≡◌, ℕ, ◌||◌, Bool, true, false, List, [], ◌∷◌, Option, Some, None}
 use Rattle.std.specs.List.{slice_get}
 use Rattle.std.proofs.Common.{refl, ap, sym, subst, inl, inr}
 use Rattle.alg_laws.specs.declared.number.Number.{Number}

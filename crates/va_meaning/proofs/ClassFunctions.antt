@@ -1,5 +1,5 @@
 -- Functions and initialisers read no unknown: there everything is of one class. Evaluations of modules that keep to classes.
-use Rattle.std.specs.Prelude.{◌≡◌, ℕ, zero, suc, ◌+◌, ◌==◌, Bool, true, false, if◌then◌else◌, List, [], ◌∷◌, ◌++◌, Option, Some, None, length}
+use Rattle.std.specs.Prelude.{◌≡◌, ℕ, zero, suc, ◌==◌, Bool, true, false, if◌then◌else◌, List, [], ◌∷◌, Option, Some, None, length}
 use Rattle.std.specs.List.{slice_get}
 use Rattle.std.proofs.Common.{refl, sym, subst, arith, inl, inr}
 use Rattle.std.proofs.lemmas.Map.Views.{exact_unsigned_eq}
@@ -9,8 +9,6 @@ use Rattle.alg_laws.specs.declared.number.Ty.{Ty}
 use Rattle.alg_laws.specs.declared.number.Ty.TheVariants.{Integer, Real as RealTy}
 use Rattle.alg_laws.specs.NumberOps.{zero_of}
 use Rattle.alg_laws.specs.Related.{NumbersRelated, reals, integers}
-use Rattle.va_sem.specs.declared.builtin.SystemName.TheVariants as system_name
-use Rattle.va_tree.specs.declared.expr.Callee.TheVariants as callee_of
 use Rattle.va_tree.specs.declared.source.Quantity.TheVariants.{Flow}
 use Rattle.va_meaning.specs.Classes.{Classes, AreOrdered, Slots, IfSure, in_place, types_of, argument_types, uniform, InitialisersKeep, FunctionKeeps, KeepsToClasses, ContextsInClasses, ValuesIn, StatesInClasses}
 use Rattle.va_meaning.specs.Elaborated.{Elaborated, Initialiser, Function}

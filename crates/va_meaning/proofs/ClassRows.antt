@@ -1,8 +1,7 @@
 -- Rows of two evaluations of a module that keeps to classes: a row is of a class where all that is added up in it is.
 use Rattle.std.specs.Prelude.{◌≡◌, ℕ, zero, suc, ◌+◌, ◌==◌, ◌||◌, Bool, true, false, if◌then◌else◌, List, [], ◌∷◌, ◌++◌, Option, Some, None, map, fold}
 use Rattle.std.specs.List.{position, slice_get}
-use Rattle.std.proofs.Common.{refl, ap, ◌∙◌, subst, arith}
-use Rattle.alg_laws.specs.Outcome.{gives, ◌>>=◌}
+use Rattle.std.proofs.Common.{refl, ap, subst, arith}
 use Rattle.alg_laws.specs.Related.{ListsRelated, no_more as none_more, one_more}
 use Rattle.alg_laws.proofs.Related.{chosen_related}
 use Rattle.va_sem.specs.declared.branch.BranchKind.{BranchKind}

@@ -1,5 +1,5 @@
 -- Where all that is known is below a class, and time derivatives and numbered calls stay in it, everything is of it.
-use Rattle.std.specs.Prelude.{◌≡◌, ℕ, Bool, true, false, List, [], ◌∷◌, ◌++◌, Option, Some, None}
+use Rattle.std.specs.Prelude.{ℕ, Bool, true, false, List, [], ◌∷◌, ◌++◌, Option, Some, None}
 use Rattle.std.specs.List.{position, slice_get}
 use Rattle.std.proofs.Common.{refl, inl}
 use Rattle.alg_laws.specs.declared.number.Ty.{Ty}
@@ -16,7 +16,7 @@ use Rattle.va_tree.specs.declared.stmt.EventKind.TheVariants.{InitialStep, Final
 use Rattle.va_tree.specs.Expressions.{Expression, Arguments, literal, infinity, name, group, unary, binary, choose, call, no_more, text_then, expression_then}
 use Rattle.va_tree.specs.Statements.{Statement, Statements, Items, Defaults, null, block, only_if, if_else, cases, for_loop, while_loop, repeat_loop, event, assign, contribute, task, no_more as no_statement, statement_then, no_items, item_then, no_defaults, default_then}
 use Rattle.va_meaning.specs.Called.{Called, builtin, system, function, access, none, called}
-use Rattle.va_meaning.specs.Classes.{Classes, AreOrdered, Slots, IsSure, in_place, OperatorIn, FunctionIn, argument_types, UnknownIn, NodesIn, AccessIn, VariableIn, NameIn, CallIn, IsIn, AllIn, FirstIn, ArgumentsIn, AreIn, Fits, AssignmentIn, ContributionIn, Keeps, AllKeep, ItemsKeep, DefaultsKeep, BlocksKeep, uniform, InitialisersKeep, FunctionKeeps}
+use Rattle.va_meaning.specs.Classes.{Classes, AreOrdered, Slots, IsSure, in_place, OperatorIn, FunctionIn, argument_types, UnknownIn, NodesIn, AccessIn, VariableIn, NameIn, CallIn, IsIn, AllIn, FirstIn, ArgumentsIn, AreIn, AssignmentIn, ContributionIn, Keeps, AllKeep, ItemsKeep, DefaultsKeep, uniform, InitialisersKeep, FunctionKeeps}
 use Rattle.va_meaning.specs.Elaborated.{Elaborated, Initialiser, Function}
 use Rattle.va_meaning.specs.Runs.{under, under_all, item_values}
 use Rattle.va_meaning.specs.Types.{result_type}

@@ -1,5 +1,5 @@
 -- A module keeps to classes where each value that its statements ask for does.
-use Rattle.std.specs.Prelude.{◌≡◌, Bool, true, false, List, [], ◌∷◌, ◌++◌, Option, ℕ}
+use Rattle.std.specs.Prelude.{Bool, true, false, List, [], ◌∷◌, ℕ}
 use Rattle.std.proofs.Common.{inl}
 use Rattle.va_sem.specs.rules.Values.{Purpose, assigned, contributed}
 use Rattle.va_tree.specs.declared.stmt.EventKind.TheVariants.{InitialStep, FinalStep}

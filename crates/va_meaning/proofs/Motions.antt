@@ -1,24 +1,23 @@
 -- What doesn't move in an evaluation over dual numbers.
-use Rattle.std.specs.Prelude.{◌≡◌, ℕ, Bool, true, false, Option, Some, None}
-use Rattle.std.proofs.Common.{refl, ap, subst, inl}
+use Rattle.std.specs.Prelude.{◌≡◌, ℕ, false, Option, Some, None}
+use Rattle.std.proofs.Common.{refl, inl}
 use Rattle.alg_laws.specs.declared.dual.Dual.{Dual}
 use Rattle.alg_laws.specs.declared.number.Number.{Number}
 use Rattle.alg_laws.specs.declared.number.Reason.{Reason}
 use Rattle.alg_laws.specs.declared.number.Ty.{Ty}
 use Rattle.alg_laws.specs.declared.number.Ty.TheVariants.{Integer, Real as RealTy}
-use Rattle.alg_laws.specs.Dual.{dual, lift}
+use Rattle.alg_laws.specs.Dual.{dual}
 use Rattle.alg_laws.specs.NumberParts.{part_of}
 use Rattle.alg_laws.specs.Operations.{Operations, IsAlgebra}
-use Rattle.alg_laws.specs.Outcome.{gives}
-use Rattle.alg_laws.specs.Related.{Relates, NumbersRelated, OutcomesRelated, HasMain, IsLifted}
+use Rattle.alg_laws.specs.Related.{Relates, OutcomesRelated, IsLifted}
 use Rattle.alg_laws.proofs.Outcomes.{gives_related, part_is_zero}
 use Rattle.alg_laws.proofs.Relations.{mains_relate, lifts_relate}
-use Rattle.va_meaning.specs.Classes.{Classes, AreOrdered, Slots, IfSure, KeepsToClasses, ContextsInClasses, ValuesIn, StatesInClasses}
+use Rattle.va_meaning.specs.Classes.{AreOrdered, Slots, IfSure, KeepsToClasses, ContextsInClasses, ValuesIn, StatesInClasses}
 use Rattle.va_meaning.specs.Elaborated.{Elaborated}
 use Rattle.va_meaning.specs.Evaluation.{evaluated}
 use Rattle.va_meaning.specs.EvaluationLaws.{main_point}
 use Rattle.va_meaning.specs.Motions.{Motion, still, moving, is_below, motions, HasMotion, PointMoves, AnswersAreStill, MotionsOfEvaluations}
-use Rattle.va_meaning.specs.Points.{Point, Answers, State, over}
+use Rattle.va_meaning.specs.Points.{Point, Answers, over}
 use Rattle.va_meaning.specs.Related.{same_ends}
 use Rattle.va_meaning.proofs.Classes.{same_integers}
 use Rattle.va_meaning.proofs.ClassFunctions.{evaluated_in}

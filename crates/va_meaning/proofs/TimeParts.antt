@@ -1,26 +1,22 @@
 -- A module that keeps to timed variables keeps to what doesn't move where nothing but time derivatives moves.
-use Rattle.std.specs.Prelude.{◌≡◌, ℕ, zero, suc, ◌==◌, ◌&&◌, ◌||◌, Bool, true, false, List, [], ◌∷◌, Option, Some, None, length}
-use Rattle.std.specs.List.{position, slice_get, list_any}
-use Rattle.std.proofs.Common.{refl, ap, sym, ◌∙◌, subst, arith, inl, inr}
+use Rattle.std.specs.Prelude.{◌≡◌, ℕ, ◌&&◌, Bool, true, false, List, [], ◌∷◌, Option, Some, None, length}
+use Rattle.std.specs.List.{position, slice_get}
+use Rattle.std.proofs.Common.{refl, ap, sym, ◌∙◌, subst, inl}
 use Rattle.std.proofs.lemmas.Bool.{eq-eqb}
 use Rattle.alg_laws.specs.declared.dual.Dual.{Dual}
-use Rattle.alg_laws.specs.declared.number.Number.{Number}
 use Rattle.alg_laws.specs.declared.number.Reason.{Reason}
 use Rattle.alg_laws.specs.declared.number.Ty.{Ty}
 use Rattle.alg_laws.specs.declared.number.Ty.TheVariants.{Integer, Real as RealTy}
-use Rattle.alg_laws.specs.Dual.{dual, lift}
-use Rattle.alg_laws.specs.NumberParts.{part_of}
+use Rattle.alg_laws.specs.Dual.{dual}
 use Rattle.alg_laws.specs.Operations.{Operations, IsAlgebra}
-use Rattle.alg_laws.specs.Outcome.{gives}
-use Rattle.alg_laws.specs.Related.{NumbersRelated, OutcomesRelated, ListsRelated, HasMain, IsLifted}
-use Rattle.alg_laws.proofs.Outcomes.{gives_related, numbers_weaker, is_lifted, part_is_zero}
+use Rattle.alg_laws.specs.Related.{NumbersRelated, OutcomesRelated}
+use Rattle.alg_laws.proofs.Outcomes.{gives_related, is_lifted, part_is_zero}
 use Rattle.va_sem.specs.declared.branch.Unknown.{Unknown}
 use Rattle.va_sem.specs.declared.branch.Unknown.TheVariants.{Node, Branch}
 use Rattle.va_sem.specs.declared.branch.BranchKind.{BranchKind}
 use Rattle.va_sem.specs.declared.branch.BranchKind.TheVariants as kind
 use Rattle.va_sem.specs.declared.builtin.Builtin.TheVariants.{One, Two, Abs, Min, Max, LimExp, Ddt, LeftOut}
 use Rattle.va_sem.specs.declared.builtin.SystemFunction.TheVariants.{Temperature, ThermalVoltage, Limit, SimParam, ParamGiven}
-use Rattle.va_sem.specs.declared.names.BranchName.{BranchName}
 use Rattle.va_sem.specs.declared.names.Meaning.{Meaning}
 use Rattle.va_sem.specs.declared.names.Meaning.TheVariants.{Var, Access}
 use Rattle.va_sem.specs.declared.names.ModuleNames.{ModuleNames}
@@ -29,35 +25,33 @@ use Rattle.va_sem.specs.Meanings.{names_of_module}
 use Rattle.va_sem.specs.Typing.{meaning_at}
 use Rattle.va_sem.specs.rules.Biased.{Analysis, analysis_of, is_timed}
 use Rattle.va_sem.specs.rules.Uses.{is_access_to}
-use Rattle.va_sem.specs.rules.Values.{Purpose, assigned, contributed, Value}
+use Rattle.va_sem.specs.rules.Values.{Purpose, contributed, Value}
 use Rattle.va_sem.proofs.Contained.{Has, all_of_has}
 use Rattle.va_tree.specs.declared.expr.UnaryOp.TheVariants.{Plus, Minus, Not}
 use Rattle.va_tree.specs.declared.module.Module.{Module}
 use Rattle.va_tree.specs.declared.source.Source.{Source}
 use Rattle.va_tree.specs.Expressions.{Expression, Arguments, literal, infinity, name, group, unary, binary, choose, call, no_more, text_then, expression_then}
 use Rattle.va_meaning.specs.Called.{Called, builtin, system, function, access, none, called}
-use Rattle.va_meaning.specs.Classes.{Slots, IfSure, IsSure, in_place, FunctionIn, argument_types, UnknownIn, NodesIn, AccessIn, VariableIn, NameIn, CallIn, IsIn, AllIn, FirstIn, ArgumentsIn, Fits, AssignmentIn, ContributionIn, BlocksKeep, uniform, InitialisersKeep, FunctionKeeps, KeepsToClasses, ContextsInClasses, ValuesIn, StatesInClasses}
-use Rattle.va_meaning.specs.EachValue.{EachValueOfBlocks}
+use Rattle.va_meaning.specs.Classes.{Slots, IsSure, in_place, FunctionIn, argument_types, UnknownIn, NodesIn, AccessIn, VariableIn, NameIn, CallIn, IsIn, AllIn, FirstIn, ArgumentsIn, AssignmentIn, ContributionIn, uniform, InitialisersKeep, FunctionKeeps, KeepsToClasses, ContextsInClasses, ValuesIn, StatesInClasses}
 use Rattle.va_meaning.specs.Elaborated.{Elaborated, Initialiser, Function}
 use Rattle.va_meaning.specs.Elaboration.{elaborated, module_seen}
 use Rattle.va_meaning.specs.Evaluation.{evaluated, functions}
 use Rattle.va_meaning.specs.EvaluationLaws.{PointValid}
 use Rattle.va_meaning.specs.Motions.{Motion, still, moving, is_below, motions, HasMotion, AnswersAreStill}
-use Rattle.va_meaning.specs.Points.{Point, Context, Answers, State, Store, over}
-use Rattle.va_meaning.specs.Related.{Alike, same_ends, HeldRelated}
+use Rattle.va_meaning.specs.Points.{Point, Context, Answers, Store, over}
+use Rattle.va_meaning.specs.Related.{Alike, same_ends}
 use Rattle.va_meaning.specs.Residuals.{lifted_point}
-use Rattle.va_meaning.specs.Rows.{is_end, residuals}
-use Rattle.va_meaning.specs.TimeLaws.{IsOfSoundText}
+use Rattle.va_meaning.specs.Rows.{residuals}
 use Rattle.va_meaning.specs.TimeParts.{moves_if, moves_with_time, ContributionKeepsTime, ContributedInTime, KeepsReactive, IsRowUntimed, PartsByTime, is_contributed_to, reactive_branches, TimesOfEvaluations}
 use Rattle.va_meaning.specs.Timed.{IsCallUntimed, IsNameUntimed, IsUntimed, AreUntimed, IsFirstUntimed, InitialisersUntimed, AssignmentKeepsTime, ValueKeepsTime, HoldsNoDdt, FunctionHoldsNoDdt, KeepsToTime}
 use Rattle.va_meaning.specs.Types.{result_type}
 use Rattle.va_meaning.specs.Unknowns.{is_unknown, branch_of}
 use Rattle.va_meaning.specs.Values.{value_of}
-use Rattle.va_meaning.proofs.Classes.{same_integers, FunctionsIn, value_in}
+use Rattle.va_meaning.proofs.Classes.{value_in}
 use Rattle.va_meaning.proofs.ClassFunctions.{functions_in, evaluated_in}
 use Rattle.va_meaning.proofs.ClassRows.{FlowIn, RowIn, RowsIn, residuals_in}
 use Rattle.va_meaning.proofs.Endings.{same_closed, same_related, weaker_itself}
-use Rattle.va_meaning.proofs.Everything.{IsUnder, operator_any, up_in_place, everything_in, uniform_under, function_any_keeps}
+use Rattle.va_meaning.proofs.Everything.{IsUnder, operator_any, up_in_place, everything_in, function_any_keeps}
 use Rattle.va_meaning.proofs.KeepsFrom.{each_keeps, blocks_keep}
 use Rattle.va_meaning.proofs.Motions.{below_itself, below_moving, motions_ordered, motion_kept, motion_weaker, time_moves, still_part}
 use Rattle.va_meaning.proofs.TimeLaws.{any_has, time_laws}

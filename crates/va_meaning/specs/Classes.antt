@@ -2,7 +2,7 @@
 -- values that don't move, and of some nothing may be known. A class says how two values are related. Variables, sums that branches hold
 -- and unknowns have classes, and a module keeps to them where each value that is assigned or contributed is of the class that its
 -- place has.
-use Rattle.std.specs.Prelude.{◌≡◌, ℕ, ◌⊎◌, Bool, true, false, List, [], ◌∷◌, ◌++◌, Option, Some, None}
+use Rattle.std.specs.Prelude.{◌≡◌, ℕ, ◌⊎◌, Bool, true, false, List, [], ◌∷◌, Option, Some, None}
 use Rattle.std.specs.List.{position, slice_get}
 use Rattle.alg_laws.specs.declared.number.Number.{Number}
 use Rattle.alg_laws.specs.declared.number.Reason.{Reason}
