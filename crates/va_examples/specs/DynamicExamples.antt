@@ -1,15 +1,20 @@
 -- Modules with time derivatives, potential branches, collapsing branches and parameters, with values worked out by hand modulo
 -- 1000003. Above each row stands the text of the module's items.
-use Rattle.std.specs.Prelude.{◌≡◌, ℕ, ◌==◌, pos, Bool, true, false, List, [], ◌∷◌, Some, None, codes}
+use Rattle.std.specs.Prelude.{◌≡◌, ℕ, ◌==◌, pos, Bool, true, false, List, [], ◌∷◌, Some, None, map, codes}
 use Rattle.alg_laws.specs.declared.number.Number.TheVariants.{Real, Int}
 use Rattle.alg_laws.specs.declared.number.Reason.TheVariants.{IntRange}
 use Rattle.alg_laws.specs.Outcome.{gives, ends}
+use Rattle.va_sem.specs.declared.branch.Unknown.TheVariants.{Node}
+use Rattle.va_sem.specs.Declarations.{analog_bodies}
+use Rattle.va_sem.specs.Meanings.{names_of_module}
+use Rattle.va_sem.specs.rules.Biased.{Analysis, analysis_of}
 use Rattle.va_tree.specs.declared.expr.BinaryOp.TheVariants.{Greater, Add, Multiply, Divide}
 use Rattle.va_tree.specs.declared.module.Item.{Item}
 use Rattle.va_tree.specs.declared.module.Ty.TheVariants as ty
+use Rattle.va_meaning.specs.TimeParts.{KeepsReactive, IsRowUntimed, reactive_branches}
 use Rattle.va_meaning.specs.Timed.{KeepsToTime, HasLinearTime}
 use Rattle.va_examples.specs.Notation.{Text, whole, name, infinity, between, expression, system, of, across, contribute, contribute_alone, begins, if_only, if_or_else, defaulted, from, excluding, parameters, instance_parameters, alias, branch, node, variable, variables, assign, analog}
-use Rattle.va_examples.specs.Examples.{v_a, to_a, to_a_c, by_default, on_model, on_instance, part, rows_at, flags_at, errors_at, columns_at, moved_rows, model}
+use Rattle.va_examples.specs.Examples.{v_a, to_a, to_a_c, by_default, on_model, on_instance, part, rows_at, flags_at, errors_at, columns_at, moved_rows, module_of, source_of, model}
 
 abbrev real_parameter : ℕ → List ℕ → Text Item
 real_parameter value p = parameters false (Some ty.Real) (defaulted p (whole value) [] ∷ [])
@@ -137,15 +142,18 @@ pub record WorkedSetUps : Type 0 where
       ≡ gives (record { main = part 20 20; part = part 0 0 } ∷ record { main = part 0 0; part = part 0 0 } ∷ [])
 
 -- parameter real l = 3; real q; analog begin q = ddt(V(a)); I(a) <+ l * q; end
-abbrev stored : List (Text Item)
+abbrev pub stored : List (Text Item)
 stored =
     real_parameter 3 (codes "l")
     ∷ variables ty.Real (variable (codes "q") ∷ [])
     ∷ analog (begins (assign (codes "q") (of (codes "ddt") v_a) ∷ to_a (between (name (codes "l")) Multiply (name (codes "q"))) ∷ []))
     ∷ []
 
-abbrev only_first : ℕ → Bool
+abbrev pub only_first : ℕ → Bool
 only_first x = x == 0
+
+abbrev pub stored_analysis : Analysis
+stored_analysis = let m = module_of stored in analysis_of (names_of_module (source_of m) 0 m) (analog_bodies m)
 
 -- What is timed, and linear places.
 pub record WorkedTimes : Type 0 where
@@ -154,3 +162,10 @@ pub record WorkedTimes : Type 0 where
   pub linear : HasLinearTime (model stored) only_first only_first
   -- without q in the set the assignment breaks what is asked
   pub must_be_timed : KeepsToTime (model stored) (λ x. false) → ⊥
+  -- The branch of number 0 is reactive. The row of c is untimed, since that branch ends at a and at the reference node; its part is 0.
+  pub reactive : KeepsReactive (model stored) only_first only_first
+  pub must_be_reactive : KeepsReactive (model stored) only_first (λ b. false) → ⊥
+  pub found_reactive : map (reactive_branches stored_analysis) (0 ∷ 1 ∷ []) ≡ true ∷ false ∷ []
+  pub row_of_a_is_timed : IsRowUntimed (model stored) only_first (Node 0) → ⊥
+  pub row_of_c_is_untimed : IsRowUntimed (model stored) only_first (Node 1)
+  pub parts_of_rows : rows_at stored by_default (5 ∷ 3 ∷ []) ≡ gives (part 0 15 ∷ part 0 0 ∷ [])

@@ -1,13 +1,13 @@
 -- Two defined evaluations at points that differ in unknowns alone end with the same fixed variables and the same marks: what is fixed is
 -- of the one class of equal values, and nothing is known of what is biased.
-use Rattle.std.specs.Prelude.{◌≡◌, ℕ, ◌||◌, Bool, true, false, if◌then◌else◌, List, [], ◌∷◌, ◌++◌, Option, Some, None}
+use Rattle.std.specs.Prelude.{◌≡◌, ℕ, ◌||◌, Bool, true, false, List, [], ◌∷◌, Option, Some, None}
 use Rattle.std.specs.List.{slice_get}
 use Rattle.std.proofs.Common.{refl, ap, sym, subst, inl, inr}
 use Rattle.alg_laws.specs.declared.number.Number.{Number}
 use Rattle.alg_laws.specs.declared.number.Ty.{Ty}
 use Rattle.alg_laws.specs.declared.number.Ty.TheVariants.{Integer, Real as RealTy}
 use Rattle.alg_laws.specs.Outcome.{gives, ends}
-use Rattle.alg_laws.specs.Related.{NumbersRelated, ListsRelated, no_more as none_more, one_more}
+use Rattle.alg_laws.specs.Related.{ListsRelated, no_more as none_more, one_more}
 use Rattle.alg_laws.proofs.Outcomes.{numbers_equal}
 use Rattle.va_sem.specs.declared.branch.BranchKind.{BranchKind}
 use Rattle.va_sem.specs.declared.branch.BranchKind.TheVariants.{Collapsing, Flow, Potential}
@@ -22,17 +22,17 @@ use Rattle.va_tree.specs.Statements.{Statement, Statements, Items, Defaults, nul
 use Rattle.va_meaning.specs.Bias.{IsCallFixed, IsNameFixed, IsFixed, AreFixed, IsFirstFixed, KeepsToBias, SameFixed}
 use Rattle.va_meaning.specs.Bias as bias
 use Rattle.va_meaning.specs.Called.{Called, builtin, system, function, access, none, called}
-use Rattle.va_meaning.specs.Classes.{Classes, AreOrdered, Slots, IfSure, in_place, FunctionIn, MayCall, argument_types, VariableIn, NameIn, CallIn, IsIn, AllIn, FirstIn, ArgumentsIn, AreIn, Fits, AssignmentIn, ContributionIn, Under, Keeps, AllKeep, ItemsKeep, DefaultsKeep, BlocksKeep, KeepsToClasses, ContextsInClasses, ValuesIn, StatesInClasses}
+use Rattle.va_meaning.specs.Classes.{Classes, AreOrdered, Slots, IfSure, in_place, FunctionIn, argument_types, VariableIn, NameIn, CallIn, IsIn, AllIn, FirstIn, ArgumentsIn, AreIn, Fits, AssignmentIn, ContributionIn, Under, Keeps, AllKeep, ItemsKeep, DefaultsKeep, BlocksKeep, KeepsToClasses, ContextsInClasses, ValuesIn, StatesInClasses}
 use Rattle.va_meaning.specs.Elaborated.{Elaborated}
 use Rattle.va_meaning.specs.Evaluation.{evaluated}
 use Rattle.va_meaning.specs.Points.{Context, Result, State, at_unknowns}
 use Rattle.va_meaning.specs.Related.{same_ends, any_ends, Alike, both_give, both_end, first_ends, second_ends, ResultsRelated}
 use Rattle.va_meaning.specs.Runs.{under, under_all, item_values}
 use Rattle.va_meaning.specs.Types.{result_type}
-use Rattle.va_meaning.proofs.ClassFunctions.{operator_any, evaluated_in}
+use Rattle.va_meaning.proofs.ClassFunctions.{evaluated_in}
 use Rattle.va_meaning.proofs.Endings.{same_closed, any_closed, weaker_any, itself, alike_itself, alike_weaker, same_itself}
 use Rattle.va_meaning.proofs.Classes.{same_integers}
-use Rattle.va_meaning.proofs.Everywhere.{initialisers_everywhere, function_everywhere}
+use Rattle.va_meaning.proofs.Everything.{operator_any, initialisers_any, function_any_keeps}
 
 -- one class, in which everything is
 abbrev pub single : Classes (Unit {0})
@@ -57,20 +57,6 @@ single_ordered = record {
   products = λ k l h i. tt;
   derivatives = λ k l m h i. tt;
 }
-
-pub single_calls : (what : Called) → MayCall single tt what
-single_calls (builtin Ddt) = tt
-single_calls (builtin LeftOut) = tt
-single_calls (builtin (One f)) = tt
-single_calls (builtin (Two f)) = tt
-single_calls (builtin Abs) = tt
-single_calls (builtin Min) = tt
-single_calls (builtin Max) = tt
-single_calls (builtin LimExp) = tt
-single_calls (system s) = tt
-single_calls (function f) = tt
-single_calls (access b turned flow) = tt
-single_calls none = tt
 
 abbrev is_collapsing : BranchKind → Bool
 is_collapsing Collapsing = true
@@ -154,7 +140,7 @@ module _ (M : Elaborated) (biased : ℕ → Bool) where
     fixed_in (unary at Minus operand) h = fixed_in operand h
     fixed_in (unary at Not operand) h = fixed_in operand h
     fixed_in (binary at left op right) h =
-        operator_any M single single_ordered tt tt tt tt op _ _ (λ l up. fixed_in left h.0) (λ l up. fixed_in right h.1)
+        operator_any single single_ordered tt tt tt tt op _ _ (λ l up. fixed_in left h.0) (λ l up. fixed_in right h.1)
     fixed_in (choose at test a b) h = (fixed_in test h.0, fixed_in a h.1, fixed_in b h.2)
     fixed_in (call at callee bytes args) h =
         call_fixed (called (M.meaning at) callee bytes) (IsFirstFixed M biased args) (AreFixed M biased args) h _ _ _ (λ h. first_in args h) (λ h. all_in args h) (λ types h. arguments_in types args h)
@@ -267,8 +253,8 @@ module _ (M : Elaborated) (biased : ℕ → Bool) where
 
   fixed_classes : KeepsToBias M biased → KeepsToClasses M single fixed_slots
   fixed_classes h = record {
-    functions = λ f k closed. function_everywhere M (MayCall single k) (λ at callee bytes. single_calls (called (M.meaning at) callee bytes)) (slice_get M.functions f);
-    initialisers = initialisers_everywhere M (MayCall single tt) (λ at callee bytes. single_calls (called (M.meaning at) callee bytes)) M.initialisers;
+    functions = λ f k closed. function_any_keeps M single single_ordered k tt tt tt (slice_get M.functions f);
+    initialisers = initialisers_any M single single_ordered tt tt tt tt M.initialisers;
     blocks = blocks_fixed h.expressions M.blocks h.blocks;
   }
 

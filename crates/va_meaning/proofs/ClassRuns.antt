@@ -6,9 +6,8 @@ use Rattle.std.proofs.lemmas.Map.Views.{exact_unsigned_eq}
 use Rattle.alg_laws.specs.declared.number.Number.{Number}
 use Rattle.alg_laws.specs.declared.number.Reason.{Reason}
 use Rattle.alg_laws.specs.declared.number.Reason.TheVariants.{Turns}
-use Rattle.alg_laws.specs.declared.number.Ty.{Ty}
 use Rattle.alg_laws.specs.Loop.{turns, while_turns}
-use Rattle.alg_laws.specs.NumberOps.{converted, to_integer, to_real, is_true, is_same}
+use Rattle.alg_laws.specs.NumberOps.{converted, to_integer, to_real}
 use Rattle.alg_laws.specs.Outcome.{Outcome, gives, ◌>>=◌}
 use Rattle.alg_laws.specs.Related.{NumbersRelated, OutcomesRelated}
 use Rattle.alg_laws.proofs.Outcomes.{outcomes_same}
@@ -22,9 +21,9 @@ use Rattle.va_tree.specs.Statements.{Statement, Statements, Items, Defaults, nul
 use Rattle.va_meaning.specs.Classes.{Classes, AreOrdered, Slots, IfSure, in_place, IsIn, AreIn, EvaluatedIn, Fits, AssignmentIn, ContributionIn, Under, Keeps, AllKeep, ItemsKeep, DefaultsKeep, BlocksKeep, ContextsInClasses, ValuesIn, StatesInClasses}
 use Rattle.va_meaning.specs.Elaborated.{Elaborated}
 use Rattle.va_meaning.specs.Evaluation.{run_blocks}
-use Rattle.va_meaning.specs.Points.{Context, Store, State, Held, with_variable, held_of, is_quantity, told}
+use Rattle.va_meaning.specs.Points.{Context, State, Held, with_variable, held_of, is_quantity, told}
 use Rattle.va_meaning.specs.Related.{Endings, IsClosed, Alike, both_give, BoundsRelated, HeldRelated}
-use Rattle.va_meaning.specs.Runs.{quantity_of, marked, statement_size, items_size, sizes, under, under_all, item_values, Counted, turns_left, count_down, repeated, test_of, assigned, assign_value, contributed, is_among, run, run_all, run_case, run_default}
+use Rattle.va_meaning.specs.Runs.{quantity_of, marked, statement_size, under, under_all, item_values, Counted, turns_left, count_down, repeated, test_of, assigned, assign_value, contributed, is_among, run, run_all, run_case, run_default}
 use Rattle.va_meaning.specs.Unknowns.{signed}
 use Rattle.va_meaning.specs.Values.{Functions, size, value_of}
 use Rattle.va_meaning.proofs.Classes.{FunctionsIn, said, topmost, zero_in, real_in, signed_in, converted_in, same_type, value_in}

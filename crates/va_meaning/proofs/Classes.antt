@@ -1,45 +1,38 @@
 -- Two evaluations of a module that keeps to classes of values: they end early as they may, or their variables, what branches hold and
 -- marks are related as the classes say.
-use Rattle.std.specs.Prelude.{◌≡◌, ℕ, zero, suc, ◌+◌, ◌==◌, Bool, true, false, not, ℤ, pos, negsuc, ◌-ℤ◌, int_lt, int_le, if◌then◌else◌, List, [], ◌∷◌, ◌++◌, Option, Some, None}
-use Rattle.std.specs.List.{position, slice_get}
-use Rattle.std.proofs.Common.{refl, ap, sym, ◌∙◌, subst, arith, inl, inr}
-use Rattle.std.proofs.lemmas.Map.Views.{exact_unsigned_eq}
+use Rattle.std.specs.Prelude.{◌≡◌, ℕ, zero, suc, ◌+◌, Bool, true, false, not, ℤ, negsuc, List, [], ◌∷◌, Option, Some, None}
+use Rattle.std.specs.List.{slice_get}
+use Rattle.std.proofs.Common.{refl, ap, subst}
 use Rattle.alg_laws.specs.declared.function.Fun1.TheVariants.{Exp}
 use Rattle.alg_laws.specs.declared.number.Number.{Number}
 use Rattle.alg_laws.specs.declared.number.Reason.{Reason}
-use Rattle.alg_laws.specs.declared.number.Reason.TheVariants.{Turns}
 use Rattle.alg_laws.specs.declared.number.Ty.{Ty}
 use Rattle.alg_laws.specs.declared.number.Ty.TheVariants.{Integer, Real as RealTy}
 use Rattle.alg_laws.specs.IntegerOps.{int_sum, int_difference, int_product, int_negative, int_quotient, int_remainder}
-use Rattle.alg_laws.specs.LiteralValue.{literal_value, whole_value}
-use Rattle.alg_laws.specs.Loop.{while_turns}
-use Rattle.alg_laws.specs.NumberOps.{as_int, joined, truth, is_true, by_type, zero_of, to_real, to_integer, converted, is_same, is_less, is_at_most, sum_of, difference_of, product_of, quotient_of, remainder_of, negative_of}
+use Rattle.alg_laws.specs.NumberOps.{as_int, joined, truth, is_true, by_type, to_real, converted, is_same, is_less, is_at_most, negative_of}
 use Rattle.alg_laws.specs.Outcome.{Outcome, gives, ends, ◌>>=◌}
 use Rattle.alg_laws.specs.Related.{Relates, NumbersRelated, reals, integers, OutcomesRelated, both_give as outcomes_give, both_end as outcomes_end, ListsRelated, no_more as none_more, one_more}
-use Rattle.alg_laws.proofs.Outcomes.{numbers_weaker, outcomes_weaker, outcomes_same}
-use Rattle.alg_laws.proofs.Related.{chosen_related, literal_related, whole_related, to_integer_related, is_true_related, truth_related, power_of_related, is_less_related, is_at_most_related, is_same_related, contrary_of_related, absolute_of_related, minimum_of_related, maximum_of_related, fun1_of_related, fun2_of_related}
+use Rattle.alg_laws.proofs.Outcomes.{numbers_weaker, outcomes_weaker}
+use Rattle.alg_laws.proofs.Related.{chosen_related, literal_related, whole_related, to_integer_related, is_true_related, truth_related, power_of_related, is_less_related, is_at_most_related, is_same_related, absolute_of_related, minimum_of_related, maximum_of_related, fun1_of_related, fun2_of_related}
 use Rattle.va_base.specs.declared.exact.Decimal.{Decimal}
-use Rattle.va_sem.specs.declared.branch.Unknown.{Unknown}
-use Rattle.va_sem.specs.declared.branch.Unknown.TheVariants.{Node, Branch}
 use Rattle.va_sem.specs.declared.builtin.Builtin.{Builtin}
 use Rattle.va_sem.specs.declared.builtin.Builtin.TheVariants.{One, Two, Abs, Min, Max, LimExp, Ddt, LeftOut}
-use Rattle.va_sem.specs.declared.builtin.SystemFunction.{SystemFunction}
 use Rattle.va_sem.specs.declared.builtin.SystemFunction.TheVariants.{Temperature, ThermalVoltage, Limit, SimParam, ParamGiven}
 use Rattle.va_sem.specs.declared.names.Meaning.{Meaning}
-use Rattle.va_sem.specs.declared.names.Meaning.TheVariants.{Param, Var, Access}
+use Rattle.va_sem.specs.declared.names.Meaning.TheVariants.{Param, Var}
 use Rattle.va_tree.specs.declared.expr.BinaryOp.{BinaryOp}
 use Rattle.va_tree.specs.declared.expr.BinaryOp.TheVariants.{Or, And, Equal, NotEqual, Less, AtMost, Greater, AtLeast, Add, Subtract, Multiply, Divide, Remainder, Power}
 use Rattle.va_tree.specs.declared.expr.UnaryOp.{UnaryOp}
 use Rattle.va_tree.specs.declared.expr.UnaryOp.TheVariants.{Plus, Minus, Not}
 use Rattle.va_tree.specs.Expressions.{Expression, Arguments, literal, infinity, name, group, unary, binary, choose, call, no_more, text_then, expression_then}
 use Rattle.va_meaning.specs.Called.{Called, builtin, system, function, access, none, called}
-use Rattle.va_meaning.specs.Classes.{Classes, AreOrdered, Slots, IfSure, IsSure, in_place, Within, OperatorIn, BuiltinIn, FunctionIn, argument_types, UnknownIn, NodesIn, AccessIn, VariableIn, NameIn, CallIn, IsIn, AllIn, FirstIn, ArgumentsIn, AreIn, ContextsInClasses, ValuesIn}
+use Rattle.va_meaning.specs.Classes.{Classes, AreOrdered, Slots, IfSure, IsSure, in_place, Within, OperatorIn, BuiltinIn, FunctionIn, argument_types, UnknownIn, NodesIn, AccessIn, VariableIn, NameIn, CallIn, IsIn, AllIn, FirstIn, ArgumentsIn, ContextsInClasses, ValuesIn}
 use Rattle.va_meaning.specs.Elaborated.{Elaborated}
 use Rattle.va_meaning.specs.Points.{Context, Result, Store, told}
-use Rattle.va_meaning.specs.Related.{Endings, IsClosed, Alike, both_give, both_end, ResultsRelated}
+use Rattle.va_meaning.specs.Related.{Endings, IsClosed, Alike, both_give, ResultsRelated}
 use Rattle.va_meaning.specs.Types.{result_type}
-use Rattle.va_meaning.specs.Unknowns.{is_unknown, value_at, branch_of, signed, unknown_value, potential_between, access_value}
-use Rattle.va_meaning.specs.Values.{Functions, size, argument, numeral, unary_value, binary_value, thermal_voltage, named, builtin_value, given_name, given_argument, thermal_value, system_value, call_value, value_of, outcomes_of}
+use Rattle.va_meaning.specs.Unknowns.{value_at, signed, potential_between, access_value}
+use Rattle.va_meaning.specs.Values.{Functions, size, argument, numeral, unary_value, binary_value, thermal_voltage, named, builtin_value, given_name, given_argument, thermal_value, call_value, value_of, outcomes_of}
 use Rattle.va_meaning.proofs.Endings.{then_alike, told_alike, alike_weaker}
 
 -- the same integers are related in every way
@@ -216,11 +209,11 @@ module _ {E E' V W C : Type 0} (g : Endings E E') (closed : IsClosed g) (M : Ela
   sure_in k x u None i p = absurd i
   sure_in k x u (Some l) i p = h.weaker l k i x u p
 
-  unknown_in : (k : C) (i : Option ℕ) → UnknownIn M K slots k i → R k (value_at c.ops c.point.unknowns i) (value_at d.ops d.point.unknowns i)
+  pub unknown_in : (k : C) (i : Option ℕ) → UnknownIn M K slots k i → R k (value_at c.ops c.point.unknowns i) (value_at d.ops d.point.unknowns i)
   unknown_in k None i = zero_in k
   unknown_in k (Some j) i = sure_in k _ _ (slots.unknown j) i (h.unknowns j)
 
-  nodes_in : (k : C) (plus : ℕ) (minus : Option ℕ) → NodesIn M K slots k plus minus
+  pub nodes_in : (k : C) (plus : ℕ) (minus : Option ℕ) → NodesIn M K slots k plus minus
       → R k (potential_between M c.ops c.point plus minus) (potential_between M d.ops d.point plus minus)
   nodes_in k plus None i = unknown_in k _ i
   nodes_in k plus (Some minus) i = h.sum k _ _ _ _ (unknown_in k _ i.0) (h.negative k _ _ (unknown_in k _ i.1))

@@ -1,5 +1,6 @@
 pub mod Bias
 pub mod ClassFunctions
+pub mod ClassRows
 pub mod ClassRuns
 pub mod Classes
 pub mod CycleCalls
@@ -10,8 +11,10 @@ pub mod CycleSites
 pub mod Elaborated
 pub mod Endings
 pub mod EvaluationLaws
+pub mod Everything
 pub mod Everywhere
 pub mod Invariants
+pub mod KeepsFrom
 pub mod Motions
 pub mod Nesting
 pub mod NumberedCalls
@@ -21,6 +24,7 @@ pub mod SetUpErrors
 pub mod SetUpLaws
 pub mod SetUpsRelated
 pub mod TimeLaws
+pub mod TimeParts
 pub mod Timed
 pub mod TypeLaws
 pub mod TypedStores

@@ -1,24 +1,23 @@
 -- What doesn't move in an evaluation over dual numbers.
-use Rattle.std.specs.Prelude.{◌≡◌, ℕ, Bool, true, false, Option, Some, None}
-use Rattle.std.proofs.Common.{refl, ap, subst, inl}
+use Rattle.std.specs.Prelude.{◌≡◌, ℕ, false, Option, Some, None}
+use Rattle.std.proofs.Common.{refl, inl}
 use Rattle.alg_laws.specs.declared.dual.Dual.{Dual}
 use Rattle.alg_laws.specs.declared.number.Number.{Number}
 use Rattle.alg_laws.specs.declared.number.Reason.{Reason}
 use Rattle.alg_laws.specs.declared.number.Ty.{Ty}
 use Rattle.alg_laws.specs.declared.number.Ty.TheVariants.{Integer, Real as RealTy}
-use Rattle.alg_laws.specs.Dual.{dual, lift}
+use Rattle.alg_laws.specs.Dual.{dual}
 use Rattle.alg_laws.specs.NumberParts.{part_of}
 use Rattle.alg_laws.specs.Operations.{Operations, IsAlgebra}
-use Rattle.alg_laws.specs.Outcome.{gives}
-use Rattle.alg_laws.specs.Related.{Relates, NumbersRelated, OutcomesRelated, HasMain, IsLifted}
+use Rattle.alg_laws.specs.Related.{Relates, OutcomesRelated, IsLifted}
 use Rattle.alg_laws.proofs.Outcomes.{gives_related, part_is_zero}
 use Rattle.alg_laws.proofs.Relations.{mains_relate, lifts_relate}
-use Rattle.va_meaning.specs.Classes.{Classes, AreOrdered, Slots, IfSure, KeepsToClasses, ContextsInClasses, ValuesIn, StatesInClasses}
+use Rattle.va_meaning.specs.Classes.{AreOrdered, Slots, IfSure, KeepsToClasses, ContextsInClasses, ValuesIn, StatesInClasses}
 use Rattle.va_meaning.specs.Elaborated.{Elaborated}
 use Rattle.va_meaning.specs.Evaluation.{evaluated}
 use Rattle.va_meaning.specs.EvaluationLaws.{main_point}
 use Rattle.va_meaning.specs.Motions.{Motion, still, moving, is_below, motions, HasMotion, PointMoves, AnswersAreStill, MotionsOfEvaluations}
-use Rattle.va_meaning.specs.Points.{Point, Answers, State, over}
+use Rattle.va_meaning.specs.Points.{Point, Answers, over}
 use Rattle.va_meaning.specs.Related.{same_ends}
 use Rattle.va_meaning.proofs.Classes.{same_integers}
 use Rattle.va_meaning.proofs.ClassFunctions.{evaluated_in}
@@ -29,11 +28,11 @@ below_then still l m h i = tt
 below_then moving still m h i = absurd h
 below_then moving moving m h i = i
 
-below_itself : (k : Motion) → is_below k k
+pub below_itself : (k : Motion) → is_below k k
 below_itself still = tt
 below_itself moving = tt
 
-below_moving : (k : Motion) → is_below k moving
+pub below_moving : (k : Motion) → is_below k moving
 below_moving still = tt
 below_moving moving = tt
 
@@ -55,17 +54,17 @@ motions_ordered = record {
     moves_on moving moving h i = tt
 
 module _ {V : Type 0} (o : Operations V) (valid unit : V → Type 0) (l : IsAlgebra o valid unit) where
-  motion_kept : (k : Motion) → Relates (dual o) o (HasMotion o valid k)
+  pub motion_kept : (k : Motion) → Relates (dual o) o (HasMotion o valid k)
   motion_kept still = lifts_relate o valid unit l
   motion_kept moving = mains_relate o
 
-  motion_weaker : (k m : Motion) → is_below k m → (x : Dual V) (u : V) → HasMotion o valid k x u → HasMotion o valid m x u
+  pub motion_weaker : (k m : Motion) → is_below k m → (x : Dual V) (u : V) → HasMotion o valid k x u → HasMotion o valid m x u
   motion_weaker still still up x u h = h
   motion_weaker still moving up x u h = λ j. (h.0 j).main
   motion_weaker moving still up x u h = absurd up
   motion_weaker moving moving up x u h = h
 
-  time_moves : (s : Dual V) (k m : Motion) → motions.derives k m → (x : Dual V) (u : V) → HasMotion o valid k x u
+  pub time_moves : (s : Dual V) (k m : Motion) → motions.derives k m → (x : Dual V) (u : V) → HasMotion o valid k x u
       → HasMotion o valid m ((dual o).product s x) (o.product s.main u)
   time_moves s k still d x u h = absurd d
   time_moves s k moving d x u h = (mains_relate o).product s x s.main u refl (motion_weaker k moving (below_moving k) x u h)
@@ -99,7 +98,7 @@ module _ {V : Type 0} (o : Operations V) (valid unit : V → Type 0) (l : IsAlge
       same_ends same_closed (weaker_itself same_ends) (λ e. absurd (cc (e, sure))))
 
   -- a variable that doesn't move
-  still_part : (ty : Ty) (known : Option Motion) (v : Number (Dual V)) (w : Number V) → IfSure (λ k. ValuesIn (HasMotion o valid) ty k v w) known → known ≡ Some still
+  pub still_part : (ty : Ty) (known : Option Motion) (v : Number (Dual V)) (w : Number V) → IfSure (λ k. ValuesIn (HasMotion o valid) ty k v w) known → known ≡ Some still
       → part_of o v ≡ o.zero
   still_part ty None v w h e = absurd (cc (e))
   still_part Integer (Some k) v w h e = part_is_zero o valid (same_integers (IsLifted o valid) h)

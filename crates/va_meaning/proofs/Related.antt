@@ -1,6 +1,6 @@
 -- Evaluations over related algebras at related points go alike: both are undefined for the same reason, or both end in related
 -- states.
-use Rattle.std.specs.Prelude.{◌≡◌, ℕ, zero, suc, ◌+◌, ◌==◌, Bool, true, false, not, ℤ, pos, negsuc, ◌-ℤ◌, int_lt, if◌then◌else◌, List, [], ◌∷◌, ◌++◌, Option, Some, None, map, length}
+use Rattle.std.specs.Prelude.{◌≡◌, ℕ, zero, suc, ◌+◌, ◌==◌, Bool, true, false, not, ℤ, negsuc, if◌then◌else◌, List, [], ◌∷◌, ◌++◌, Option, Some, None, map, length}
 use Rattle.std.specs.List.{position, slice_get}
 use Rattle.std.proofs.Common.{refl, ap, subst, arith, inl, inr}
 use Rattle.alg_laws.specs.declared.function.Fun1.TheVariants.{Exp}
@@ -41,7 +41,7 @@ use Rattle.va_meaning.specs.Points.{Context, Result, Store, Held, State, held_of
 use Rattle.va_meaning.specs.Related.{Endings, IsClosed, Alike, both_give, both_end, ResultsRelated, BoundsRelated, ContextsRelated, StoresRelated, HeldRelated, StatesRelated}
 use Rattle.va_meaning.proofs.Endings.{less_bound, ends_first, then_alike, while_alike, repeated_alike, told_alike}
 use Rattle.va_meaning.specs.Rows.{flow_of, given_to, all_given_to, row, residuals}
-use Rattle.va_meaning.specs.Runs.{statement_size, quantity_of, marked, Counted, repeated, test_of, assigned, assign_value, contributed_to, contributed, is_among, run, run_all, run_case, run_default}
+use Rattle.va_meaning.specs.Runs.{statement_size, quantity_of, marked, test_of, assigned, assign_value, contributed_to, contributed, is_among, run, run_all, run_case, run_default}
 use Rattle.va_meaning.specs.Unknowns.{is_unknown, value_at, branch_of, signed, unknown_value, potential_between, access_value}
 use Rattle.va_meaning.specs.Values.{Functions, size, argument, numeral, unary_value, binary_value, thermal_voltage, named, builtin_value, given_name, given_argument, thermal_value, system_value, call_value, value_of, outcomes_of}
 

@@ -48,7 +48,7 @@ use Rattle.va_meaning.specs.TimeLaws.{IsOfSoundText, TimeLaws}
 use Rattle.va_meaning.specs.Timed.{IsNameUntimed, IsUntimed, InitialisersUntimed, AssignmentKeepsTime, ValueKeepsTime, HoldsNoDdt, FunctionHoldsNoDdt, KeepsToTime, HasLinearTime}
 use Rattle.va_meaning.proofs.Timed.{none_left, untimed_from, untimed_of, Holds, nothing_around, is_under, each_from, blocks_from, linear_module}
 
-any_has : {T : Type 0} (f : T → Bool) (xs : List T) (x : T) → Has xs x → f x ≡ true → list_any f xs ≡ true
+pub any_has : {T : Type 0} (f : T → Bool) (xs : List T) (x : T) → Has xs x → f x ≡ true → list_any f xs ≡ true
 any_has f [] x h e = absurd h
 any_has f (y ∷ ys) x (inl is) e = (λ j. (ap f is ∙ e) j || list_any f ys)
 any_has f (y ∷ ys) x (inr h) e = behind (f y) (list_any f ys) (any_has f ys x h e)

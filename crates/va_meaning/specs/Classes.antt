@@ -2,7 +2,7 @@
 -- values that don't move, and of some nothing may be known. A class says how two values are related. Variables, sums that branches hold
 -- and unknowns have classes, and a module keeps to them where each value that is assigned or contributed is of the class that its
 -- place has.
-use Rattle.std.specs.Prelude.{◌≡◌, ℕ, ◌⊎◌, Bool, true, false, List, [], ◌∷◌, ◌++◌, Option, Some, None}
+use Rattle.std.specs.Prelude.{◌≡◌, ℕ, ◌⊎◌, Bool, true, false, List, [], ◌∷◌, Option, Some, None}
 use Rattle.std.specs.List.{position, slice_get}
 use Rattle.alg_laws.specs.declared.number.Number.{Number}
 use Rattle.alg_laws.specs.declared.number.Reason.{Reason}
@@ -10,7 +10,6 @@ use Rattle.alg_laws.specs.declared.number.Reason.TheVariants.{Turns}
 use Rattle.alg_laws.specs.declared.number.Ty.{Ty}
 use Rattle.alg_laws.specs.declared.number.Ty.TheVariants.{Integer, Real}
 use Rattle.alg_laws.specs.Related.{Relates, NumbersRelated, ListsRelated}
-use Rattle.va_sem.specs.declared.branch.Unknown.{Unknown}
 use Rattle.va_sem.specs.declared.branch.Unknown.TheVariants.{Node, Branch}
 use Rattle.va_sem.specs.declared.builtin.Builtin.{Builtin}
 use Rattle.va_sem.specs.declared.builtin.Builtin.TheVariants.{Ddt, LeftOut}
@@ -24,8 +23,7 @@ use Rattle.va_tree.specs.declared.stmt.EventKind.TheVariants.{InitialStep, Final
 use Rattle.va_tree.specs.Expressions.{Expression, Arguments, literal, infinity, name, group, unary, binary, choose, call, no_more, text_then, expression_then}
 use Rattle.va_tree.specs.Statements.{Statement, Statements, Items, Defaults, null, block, only_if, if_else, cases, for_loop, while_loop, repeat_loop, event, assign, contribute, task, no_more as no_statement, statement_then, no_items, item_then, no_defaults, default_then}
 use Rattle.va_meaning.specs.Called.{Called, builtin, system, function, access, none, called}
-use Rattle.va_meaning.specs.Elaborated.{Elaborated, Function}
-use Rattle.va_meaning.specs.Nesting.{FunctionCallsOnly, InitialisersCallOnly}
+use Rattle.va_meaning.specs.Elaborated.{Elaborated, Function, Initialiser}
 use Rattle.va_meaning.specs.Points.{Context, Result, State}
 use Rattle.va_meaning.specs.Related.{Endings, Alike, ResultsRelated, BoundsRelated, HeldRelated}
 use Rattle.va_meaning.specs.Runs.{under, under_all, item_values}
@@ -106,12 +104,6 @@ module _ {C : Type 0} (K : Classes C) where
   abbrev pub FunctionIn : C → Ty → (C → Type 0) → Type 0
   FunctionIn k Integer arguments = arguments K.top
   FunctionIn k Real arguments = Within k arguments
-
-  -- what may be called where everything is of a class
-  abbrev pub MayCall : C → Called → Type 0
-  MayCall k (builtin Ddt) = K.derives k k
-  MayCall k (builtin LeftOut) = K.below K.answer k
-  MayCall k what = Unit {0}
 
 -- the types of a function's arguments
 abbrev pub types_of : Elaborated → List ℕ → List Ty
@@ -262,10 +254,25 @@ module _ {C : Type 0} (M : Elaborated) (K : Classes C) (slots : Slots C) where
   BlocksKeep [] = Unit {0}
   BlocksKeep (s ∷ rest) = Keeps false false s × BlocksKeep rest
 
--- A module keeps to classes: so do its statements, and what its functions and its initialisers call keeps each closed class.
+-- Functions and initialisers read no unknown: there everything is of one class.
+abbrev pub uniform : {C : Type 0} → C → Slots C
+uniform k = record { variable = λ x. Some k; held = λ b. Some k; unknown = λ i. Some k; mark = λ b. true; unsure = false }
+
+module _ {C : Type 0} (M : Elaborated) (K : Classes C) (k : C) where
+  -- values of initialisers are of the class, or integers where these are wanted
+  abbrev pub InitialisersKeep : List Initialiser → Type 0
+  InitialisersKeep [] = Unit {0}
+  InitialisersKeep (i ∷ rest) = IsIn M K (uniform k) (in_place K (M.variable_type i.variable) k) i.value × InitialisersKeep rest
+
+  -- A function keeps a class where all in it is of that class.
+  abbrev pub FunctionKeeps : Option Function → Type 0
+  FunctionKeeps None = Unit {0}
+  FunctionKeeps (Some f) = InitialisersKeep f.initialisers × Keeps M K (uniform k) false false f.body
+
+-- A module keeps to classes: so do its statements, each function keeps each closed class, and the initialisers keep that of literals.
 pub record KeepsToClasses {C : Type 0} (M : Elaborated) (K : Classes C) (slots : Slots C) : Type 0 where
-  pub functions : (f : ℕ) (k : C) → K.closed k → FunctionCallsOnly M (MayCall K k) (slice_get M.functions f)
-  pub initialisers : InitialisersCallOnly M (MayCall K K.rest) M.initialisers
+  pub functions : (f : ℕ) (k : C) → K.closed k → FunctionKeeps M K k (slice_get M.functions f)
+  pub initialisers : InitialisersKeep M K K.rest M.initialisers
   pub blocks : BlocksKeep M K slots M.blocks
 
 -- Two contexts in which values of each class are related.

@@ -18,6 +18,7 @@ pub mod Runs
 pub mod SetUp
 pub mod SetUpLaws
 pub mod TimeLaws
+pub mod TimeParts
 pub mod Timed
 pub mod TypeLaws
 pub mod Types

@@ -1,7 +1,6 @@
 -- What moves in an evaluation over dual numbers: a module keeps to variables that don't, where nothing that moves is assigned to them.
-use Rattle.std.specs.Prelude.{◌≡◌, ℕ, List, Bool, false, Some}
+use Rattle.std.specs.Prelude.{◌≡◌, ℕ, List, false, Some}
 use Rattle.alg_laws.specs.declared.dual.Dual.{Dual}
-use Rattle.alg_laws.specs.declared.number.Number.{Number}
 use Rattle.alg_laws.specs.declared.number.Reason.{Reason}
 use Rattle.alg_laws.specs.Dual.{dual}
 use Rattle.alg_laws.specs.NumberParts.{main_of, part_of}

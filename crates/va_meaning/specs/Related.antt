@@ -1,7 +1,6 @@
 -- Evaluations whose values are related: over two algebras, with any relation that the operations keep, and with any relation of their
 -- early ends.
 use Rattle.std.specs.Prelude.{◌≡◌, ℕ, ◌≤◌, ◌⊎◌, List}
-use Rattle.alg_laws.specs.declared.number.Number.{Number}
 use Rattle.alg_laws.specs.declared.number.Reason.{Reason}
 use Rattle.alg_laws.specs.declared.number.Reason.TheVariants.{Turns}
 use Rattle.alg_laws.specs.Outcome.{Outcome, gives, ends}

@@ -8,6 +8,7 @@ ghost use Rattle.va_meaning.specs.CycleLaws.{DepthsInModules};
 ghost use Rattle.va_meaning.specs.EvaluationLaws.{BoundsOfEvaluations, DepthsOfFunctions, EndsOfEvaluations, FixedOfEvaluations, LiftsOfEvaluations, MainsOfEvaluations, MainsOfParts, ValidityOfEvaluations};
 ghost use Rattle.va_meaning.specs.Motions.{MotionsOfEvaluations};
 ghost use Rattle.va_meaning.specs.SetUpLaws.{ErrorsOfSetUps, LiftsOfSetUps, MainsOfSetUps, PointsOfSetUps};
+ghost use Rattle.va_meaning.specs.TimeParts.{TimesOfEvaluations};
 ghost use Rattle.va_meaning.specs.TypeLaws.{TypesOfValues};
 
 use alg_laws::Algebra;
@@ -41,6 +42,12 @@ pub fn mains_of_parts<A: Algebra>(_law: PhantomData<A>)
 /// Over dual numbers, where a module keeps to what moves, what doesn't move has the part 0.
 pub fn motions_of_evaluations<A: Algebra, E: Drop>(_law: PhantomData<A>, _ends: PhantomData<E>)
     ensures { AtThree A.ops A.valid (MotionsOfEvaluations E) }
+{}
+
+/// Over dual numbers at a lifted point, where nothing but time derivatives moves, what isn't timed has the part 0: expressions, variables,
+/// what branches hold, and rows. So it is in every module of a text without faults (Time derivative operator).
+pub fn times_of_evaluations<A: Algebra, E: Drop>(_law: PhantomData<A>, _ends: PhantomData<E>)
+    ensures { AtThree A.ops A.valid (TimesOfEvaluations E) }
 {}
 
 /// An evaluation that is defined is the same where loops may make more turns, and one that ends early for another reason than want of
