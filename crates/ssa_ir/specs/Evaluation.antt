@@ -1,5 +1,5 @@
 -- What a body computes, over any algebra.
-use Rattle.std.specs.Prelude.{ℕ, suc, ◌==◌, Bool, not, if◌then◌else◌, pos, List, [], ◌∷◌, map, get_or}
+use Rattle.std.specs.Prelude.{ℕ, suc, ◌==◌, not, if◌then◌else◌, pos, List, [], ◌∷◌, map, get_or}
 use Rattle.alg_laws.specs.declared.number.Number.{Number}
 use Rattle.alg_laws.specs.declared.number.Number.TheVariants.{Real, Int}
 use Rattle.alg_laws.specs.declared.number.Reason.TheVariants.{Turns}
@@ -40,6 +40,9 @@ merged side (m ∷ ms) inner outer j = if j == m.number then inner (side m) else
 pub record AtTest (V : Type 0) : Type 0 where
   pub head : Values V
   pub inner : Values V
+
+abbrev pub at_test : {V : Type 0} → Values V → Values V → AtTest V
+at_test h w = record { head = h; inner = w }
 
 module _ {E V : Type 0} (c : Context E V) where
   abbrev pub unary_value : UnaryOperator → Number V → Result E V
@@ -86,7 +89,8 @@ module _ {E V : Type 0} (c : Context E V) where
           if is_true c.ops (v test) then (do w ← run a v; gives (merged first_of joins w v))
           else (do w ← run b v; gives (merged second_of joins w v))
       run_step (loop heads before test turn) v = do
-        last ← turns (c.stops Turns) (λ h. run before h >>= λ w. gives (record { head = h; inner = w })) (λ t. is_true c.ops (t.inner test)) (λ t. run turn t.inner >>= λ w. gives (merged second_of heads w v)) c.bound (merged first_of heads v v)
+        last ← turns (c.stops Turns) (λ h. run before h >>= λ w. gives (at_test h w)) (λ t. is_true c.ops (t.inner test))
+            (λ t. run turn t.inner >>= λ w. gives (merged second_of heads w v)) c.bound (merged first_of heads v v)
         gives last.head
 
       pub run : Steps → Values V → Outcome E (Values V)

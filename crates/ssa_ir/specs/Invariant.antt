@@ -1,6 +1,6 @@
 -- The invariant of bodies: each number is defined once, an operand is defined earlier in its block or in one that encloses it, with its
 -- type, and a call's function stands earlier, with its number and types of arguments.
-use Rattle.std.specs.Prelude.{◌≡◌, ℕ, zero, suc, ◌<◌, ◌==◌, Bool, true, false, if◌then◌else◌, List, [], ◌∷◌, ◌++◌, Option, Some, None, All, length}
+use Rattle.std.specs.Prelude.{◌≡◌, ℕ, zero, suc, ◌<◌, ◌==◌, Bool, true, false, if◌then◌else◌, List, [], ◌∷◌, ◌++◌, Option, Some, All, length}
 use Rattle.std.specs.List.{slice_get, IsDistinct}
 use Rattle.alg_laws.specs.declared.function.Fun1.{Fun1}
 use Rattle.alg_laws.specs.declared.function.Fun2.{Fun2}

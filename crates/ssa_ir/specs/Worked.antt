@@ -12,7 +12,7 @@ use Rattle.ssa_ir.specs.declared.body.Instruction.{Instruction}
 use Rattle.ssa_ir.specs.declared.body.Instruction.TheVariants.{Value, Choice, Else, Join, EndChoice, Loop, Head, Test, Next, EndLoop}
 use Rattle.ssa_ir.specs.declared.body.Operation.TheVariants.{Integer, Parameter, Unknown, Unary, Binary, Call}
 use Rattle.ssa_ir.specs.declared.body.UnaryOperator.TheVariants.{ToReal, TimeDerivative}
-use Rattle.ssa_ir.specs.Context.{Context, Inputs, Result, over}
+use Rattle.ssa_ir.specs.Context.{Context, Result, over}
 use Rattle.ssa_ir.specs.Evaluation.{calls, run}
 use Rattle.ssa_ir.specs.Flat.{steps_of}
 

@@ -1,5 +1,6 @@
 //! Bodies as lists of instructions in the order of the text.
 use alg_laws::{Fun1, Fun2, Ty};
+use sqlite_items::Boxed;
 use va_base::{Decimal, Items};
 
 /// An operator on one value.
@@ -36,7 +37,7 @@ pub enum BinaryOperator {
 #[derive(Debug, Drop)]
 pub enum Operation {
     /// A numeral in a real place (Numbers).
-    Literal(Box<Decimal>),
+    Literal(Boxed<Decimal>),
     Integer(i32),
     /// The value of a parameter; in a body of set-up what was set for it.
     Parameter(u32),
@@ -55,7 +56,7 @@ pub enum Operation {
     /// A named function of two reals.
     Two(Fun2, u32, u32),
     /// A call of a function by its place in the list of functions (User-defined analog functions).
-    Call(u32, Box<Items<u32>>),
+    Call(u32, Boxed<Items<u32>>),
 }
 
 /// An instruction. A choice or a loop stands as several: what lies between them is inside it.
@@ -68,7 +69,9 @@ pub enum Instruction {
         operation: Operation,
     },
     /// A choice begins, by a test of a value. The arm for a true one follows.
-    Choice { test: u32 },
+    Choice {
+        test: u32,
+    },
     /// The arm for a false one follows.
     Else,
     /// A number that has the value of one operand behind the first arm, and of another behind the second.
@@ -83,11 +86,19 @@ pub enum Instruction {
     /// A loop begins. Its heads follow, and then what stands before its test.
     Loop,
     /// A number that has the value of this operand at the first turn. What it has at the next one stands at the turn's end.
-    Head { number: u32, ty: Ty, initial: u32 },
+    Head {
+        number: u32,
+        ty: Ty,
+        initial: u32,
+    },
     /// The loop goes on where the value is true, and the rest of the turn follows.
-    Test { test: u32 },
+    Test {
+        test: u32,
+    },
     /// What a head has at the next turn, in the order of the heads.
-    Next { operand: u32 },
+    Next {
+        operand: u32,
+    },
     /// The loop ends. Of what is inside nothing is seen behind it but its heads.
     EndLoop,
 }

@@ -5,7 +5,6 @@
 #![tactic(auto)]
 
 pub mod body;
-pub mod laws;
 pub mod stages;
 pub mod worked;
 
