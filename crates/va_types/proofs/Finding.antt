@@ -1,9 +1,11 @@
 -- How what one walk finds goes on with what another finds.
-use Rattle.std.specs.Prelude.{◌≡◌, ℕ, zero, suc, ◌+◌, List, [], ◌∷◌, ◌++◌, Option, Some, None, length, slice_set}
-use Rattle.std.proofs.Common.{refl, sym, ap, ◌∙◌}
+use Rattle.std.specs.Prelude.{◌≡◌, ℕ, Bool, true, false, if◌then◌else◌, List, [], ◌∷◌, ◌++◌, Option, Some, None, length, slice_set}
+use Rattle.std.proofs.Common.{refl, sym, ap, ◌∙◌, arith, inl, inr}
 use Rattle.std.proofs.lemmas.List.{append_assoc, append-nil}
 use Rattle.alg_laws.specs.declared.number.Ty.{Ty}
-use Rattle.va_sem.specs.Faults.{least_of}
+use Rattle.va_sem.specs.Faults.{least_of, is_before}
+use Rattle.va_sem.proofs.Earliest.{Before, before_true, not_before}
+use Rattle.va_sem.proofs.OneFault.{one_fault}
 use Rattle.va_sem.specs.FaultsLaws.{earlier}
 use Rattle.va_sem.specs.NamesFaults.{FaultAt}
 use Rattle.va_sem.proofs.LeastByParts.{least_of_parts}
@@ -69,4 +71,36 @@ pub closes : (room ty ty' : Ty) (place : ℕ) (inner : List Ty) (f : List FaultA
 closes room ty ty' place inner f x y z at p types least is = record {
   types_are = types ∙ (λ j. slice_set (p.types_are j) (at j) (is j)) ∙ set_at_end x.types.items room ty' inner;
   least_is = least ∙ p.least_is;
+}
+
+-- faults that are found after others
+pub finds_faults : (a : List Ty) (f g : List FaultAt) (x y z : Found) → Finds a f x y → Finds [] g y z → Finds a (f ++ g) x z
+finds_faults a f g x y z p q = record {
+  types_are = q.types_are ∙ append-nil y.types.items ∙ p.types_are;
+  least_is = q.least_is ∙ ap (λ m. earlier m (least_of g)) p.least_is ∙ earlier_then x.least f g;
+}
+
+-- in any order
+never_both : (a b : FaultAt) → Before a b → Before b a → ⊥
+never_both a b (inl h) (inl k) = omega (arith, h, k)
+never_both a b (inl h) (inr k) = (let e : b.0 ≡ a.0 = k.0 in omega (arith, h, e))
+never_both a b (inr h) (inl k) = (let e : a.0 ≡ b.0 = h.0 in omega (arith, k, e))
+never_both a b (inr h) (inr k) = omega (arith, h.1, k.1)
+
+by_tests : (a b : FaultAt) (ba ab : Bool) → is_before b a ≡ ba → is_before a b ≡ ab → (if ba then b else a) ≡ (if ab then a else b)
+by_tests a b true true p q = absurd (never_both b a (before_true b a p) (before_true a b q))
+by_tests a b true false p q = refl
+by_tests a b false true p q = refl
+by_tests a b false false p q = one_fault a b (not_before a b q) (not_before b a p)
+
+turned : (a b : Option FaultAt) → earlier a b ≡ earlier b a
+turned None None = refl
+turned None (Some b) = refl
+turned (Some a) None = refl
+turned (Some a) (Some b) = ap Some (by_tests a b (is_before b a) (is_before a b) refl refl)
+
+pub finds_turned : (a : List Ty) (f g : List FaultAt) (x y : Found) → Finds a (f ++ g) x y → Finds a (g ++ f) x y
+finds_turned a f g x y p = record {
+  types_are = p.types_are;
+  least_is = p.least_is ∙ ap (earlier x.least) (least_of_parts f g ∙ turned (least_of f) (least_of g) ∙ sym (least_of_parts g f));
 }

@@ -7,7 +7,7 @@ use Rattle.va_tree.specs.declared.expr.Arg.TheVariants as arg
 use Rattle.va_tree.specs.Expressions.{Expression, Arguments, no_more, text_then, expression_then, expression_of, at_of}
 use Rattle.va_sem.specs.declared.names.NameUse.{NameUse}
 use Rattle.va_sem.specs.Builtins.{Taken, string_fits}
-use Rattle.va_tree.specs.Preorder.{expressions_in, expressions_in_arguments}
+use Rattle.va_tree.specs.Preorder.{expressions_in}
 use Rattle.va_sem.specs.Faults.{least_of}
 use Rattle.va_sem.specs.FaultsLaws.{earlier}
 use Rattle.va_sem.specs.LookedAt.{looked_at, looked_at_in_arguments}

@@ -155,13 +155,7 @@ fn named_takes(table: &Table, name: Option<SystemName>, place: usize, e: &Expr) 
 }
 
 /// Whether a call takes an expression at a place, from 0 on.
-pub fn takes_expression(
-    table: &Table,
-    callee: Callee,
-    name: &Name,
-    place: usize,
-    e: &Expr,
-) -> bool
+pub fn takes_expression(table: &Table, callee: Callee, name: &Name, place: usize, e: &Expr) -> bool
     ensures { result ≡ typing.expression_fits table.now.uses (taken_at callee name.now place) (expression_of e.now) }
 {
     match callee {

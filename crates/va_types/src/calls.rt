@@ -23,15 +23,14 @@ fn builtin_type(builtin: Option<Builtin>, arguments: &[Option<Ty>]) -> Ty
 fn fitting_builtin_type(fit: bool, row: u32, arguments: &[Option<Ty>]) -> Ty
     ensures { result ≡ (if fit then typing.type_of_builtin (row_of row) arguments.now else Real) }
 {
-    if fit { builtin_type(builtin_at(row), arguments) } else { Ty::Real }
+    if fit {
+        builtin_type(builtin_at(row), arguments)
+    } else {
+        Ty::Real
+    }
 }
 
-fn called_type(
-    table: &Table,
-    fit: bool,
-    arguments: &[Option<Ty>],
-    meaning: Option<Meaning>,
-) -> Ty
+fn called_type(table: &Table, fit: bool, arguments: &[Option<Ty>], meaning: Option<Meaning>) -> Ty
     ensures { result ≡ typing.type_of_called table.now fit arguments.now meaning }
 {
     match meaning {
@@ -46,7 +45,11 @@ fn system_type(fit: bool, arguments: &[Option<Ty>], name: Option<SystemName>) ->
 {
     match name {
         Some(SystemName::Function(function)) => {
-            if fit { function.answer_type(arguments) } else { Ty::Real }
+            if fit {
+                function.answer_type(arguments)
+            } else {
+                Ty::Real
+            }
         }
         _ => Ty::Real,
     }

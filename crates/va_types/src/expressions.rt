@@ -79,12 +79,7 @@ fn skip_arg(arg: &Arg, found: &mut Found) -> Result<(), AllocError>
 
 /// Notes the faults of an expression that is looked at and of those in it, adds their types, and answers its own.
 #[cycle(read)]
-pub fn read(
-    e: &Expr,
-    alloc: Global,
-    table: &Table,
-    found: &mut Found,
-) -> Result<Ty, AllocError>
+pub fn read(e: &Expr, alloc: Global, table: &Table, found: &mut Found) -> Result<Ty, AllocError>
     ensures { IfOk result (IsRead table.now (expression_of e.now) found.old found.new) }
 {
     let place = found.open()?;
@@ -100,7 +95,12 @@ pub fn read(
             let ty = read(operand.get(), alloc, table, found)?;
             Ok(found.close(place, unary_type(*op, ty)))
         }
-        Expr::Binary { at, left, op, right } => {
+        Expr::Binary {
+            at,
+            left,
+            op,
+            right,
+        } => {
             let a = read(left.get(), alloc, table, found)?;
             let b = read(right.get(), alloc, table, found)?;
             found.note_if(is_real_remainder(*op, a, b), *at, FaultCode::RealOperand);
@@ -112,7 +112,12 @@ pub fn read(
             let b = read(no.get(), alloc, table, found)?;
             Ok(found.close(place, either_type(a, b)))
         }
-        Expr::Call { at, callee, name, args } => {
+        Expr::Call {
+            at,
+            callee,
+            name,
+            args,
+        } => {
             let args = args.as_slice();
             let fit = note_call(args, *at, *callee, name, table, found);
             let types = read_args(args, alloc, *callee, name, table, found)?;

@@ -25,10 +25,7 @@ fn is_earlier(a: (u32, FaultCode), b: (u32, FaultCode)) -> bool
 }
 
 /// The earlier of a fault and one that may be missing.
-fn least_with(
-    known: Option<(u32, FaultCode)>,
-    fault: (u32, FaultCode),
-) -> Option<(u32, FaultCode)>
+fn least_with(known: Option<(u32, FaultCode)>, fault: (u32, FaultCode)) -> Option<(u32, FaultCode)>
     ensures { result ≡ earlier known (Some fault) }
 {
     match known {

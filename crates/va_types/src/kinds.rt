@@ -1,5 +1,5 @@
 //! Faults of the arguments of calls: how many they are, and of which kinds.
-ghost use Rattle.std.specs.Prelude.{◌≡◌, ◌++◌, [], not};
+ghost use Rattle.std.specs.Prelude.{◌≡◌, ◌&&◌, ◌++◌, [], not};
 ghost use Rattle.va_base.specs.declared.fault.FaultCode.TheVariants.{ArgumentCount, ArgumentKind};
 ghost use Rattle.va_tree.specs.Expressions.{expression_of, arguments_of, at_of};
 ghost use Rattle.va_sem.specs.Builtins.{taken_at};
@@ -49,6 +49,13 @@ fn takes(arg: &Arg, place: usize, callee: Callee, name: &Name, table: &Table) ->
     }
 }
 
+/// The one and the other.
+fn both(a: bool, b: bool) -> bool
+    ensures { result ≡ a && b }
+{
+    a && b
+}
+
 /// Notes each argument that is of another kind than is taken, and answers whether there is none.
 fn note_kinds(args: &[Arg], callee: Callee, name: &Name, table: &Table, found: &mut Found) -> bool
     ensures answer { result ≡ typing.kinds_fit table.now.uses (taken_at callee name.now) 0 (arguments_of args.now) }
@@ -58,7 +65,7 @@ fn note_kinds(args: &[Arg], callee: Callee, name: &Name, table: &Table, found: &
     for (place, arg) in args.iter().enumerate() {
         let fits = takes(arg, place, callee, name, table);
         found.note_if(!fits, token_of(arg), FaultCode::ArgumentKind);
-        all = all && fits;
+        all = both(all, fits);
     }
     all
 }
@@ -80,5 +87,5 @@ pub fn note_call(
     let takes = call_takes(table, at, callee, name, args.len());
     found.note_if(!takes, at, FaultCode::ArgumentCount);
     let fit = note_kinds(args, callee, name, table, found);
-    takes && fit
+    both(takes, fit)
 }

@@ -1,5 +1,5 @@
 use Rattle.std.proofs.Common.{ap, refl, sym}
-use Rattle.va_tree.specs.ExpressionLaws.{at_group, at_unary, at_binary, at_choose, at_call}
+use Rattle.va_tree.specs.ExpressionLaws.{at_group, at_unary, at_binary, at_choose}
 use Rattle.va_sem.specs.Typing.{is_parameter_name}
 use Rattle.va_types.proofs.arguments.is_parameter_name.Goals as goal
 

@@ -1,5 +1,5 @@
-use Rattle.std.proofs.Common.{sym, arith, refl}
-use Rattle.va_types.proofs.Skipping.{skip_group, skip_unary, skip_binary, skip_choose, skip_call, skips_next, skips_end, skips_start}
+use Rattle.std.proofs.Common.{sym, arith}
+use Rattle.va_types.proofs.Skipping.{skip_group, skip_unary, skip_binary, skip_choose, skip_call, skips_next, skips_end}
 use Rattle.va_types.proofs.expressions.+skip.Goals as goal
 
 pub skip-returns-in_ok-done-in-Group : goal.skip-returns-in_ok-done-in-Group

@@ -1,5 +1,5 @@
 use Rattle.std.proofs.Common.{ap, refl, sym}
-use Rattle.va_tree.specs.ExpressionLaws.{at_group, at_unary, at_binary, at_choose, at_call}
+use Rattle.va_tree.specs.ExpressionLaws.{at_group, at_unary, at_binary, at_choose}
 use Rattle.va_tree.specs.Expressions.{at_of}
 use Rattle.va_types.proofs.kinds.first_token.Goals as goal
 
