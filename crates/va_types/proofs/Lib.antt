@@ -1,0 +1,4 @@
+mod Finding
+mod Skipping
+mod Reading
+mod FittingKinds
