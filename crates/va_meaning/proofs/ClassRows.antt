@@ -15,24 +15,11 @@ use Rattle.va_meaning.specs.Elaborated.{Elaborated}
 use Rattle.va_meaning.specs.Evaluation.{evaluated}
 use Rattle.va_meaning.specs.Points.{Context, State, is_quantity}
 use Rattle.va_meaning.specs.Related.{Endings, IsClosed, Alike, both_give, HeldRelated}
+use Rattle.va_meaning.specs.RowClasses.{HeldIn, FlowIn, RowIn}
 use Rattle.va_meaning.specs.Rows.{is_end, flow_of, given_to, all_given_to, row, residuals}
 use Rattle.va_meaning.specs.Unknowns.{is_unknown, branch_of}
 use Rattle.va_meaning.proofs.Classes.{zero_in, unknown_in, nodes_in}
 use Rattle.va_meaning.proofs.Endings.{then_alike}
-
-module _ {C : Type 0} (M : Elaborated) (K : Classes C) (slots : Slots C) (k : C) where
-  abbrev pub HeldIn : ℕ → Type 0
-  HeldIn b = IsSure (λ l. K.below l k) (slots.held b)
-
-  abbrev pub FlowIn : ℕ → BranchKind → Type 0
-  FlowIn b kind.Flow = HeldIn b
-  FlowIn b kind.Collapsing = HeldIn b
-  FlowIn b kind.Potential = UnknownIn M K slots k (position (is_unknown (Branch b)) M.unknowns)
-
-  -- a row is of the class
-  abbrev pub RowIn : Unknown → Type 0
-  RowIn (Node a) = (b : ℕ) (branch : BranchName) → slice_get M.branches b ≡ Some branch → (branch.plus == a || is_end a branch.minus) ≡ true → FlowIn b (M.kind b)
-  RowIn (Branch b) = NodesIn M K slots k (branch_of M b).plus (branch_of M b).minus × HeldIn b
 
 after_left : (a b : Bool) → a ≡ true → (a || b) ≡ true
 after_left a b e = λ j. e j || b
