@@ -1,15 +1,13 @@
 -- What moves with an unknown of the two parts of a value: the classes are ordered, and the operations keep them.
-use Rattle.std.specs.Prelude.{◌≡◌, ℕ, ◌==◌, Bool, true, false, List, Option, Some, None, if◌then◌else◌}
+use Rattle.std.specs.Prelude.{◌≡◌, ℕ, ◌==◌, Bool, true, false, Option, Some, None, if◌then◌else◌}
 use Rattle.std.proofs.Common.{refl, ap, sym, ◌∙◌, subst, inl}
 use Rattle.alg_laws.specs.declared.dual.Dual.{Dual}
 use Rattle.alg_laws.specs.declared.number.Number.{Number}
 use Rattle.alg_laws.specs.declared.number.Number.TheVariants.{Real, Int}
-use Rattle.alg_laws.specs.declared.number.Reason.{Reason}
 use Rattle.alg_laws.specs.Dual.{dual, dual_valid, dual_unit, lift}
 use Rattle.alg_laws.specs.DualLaws.{dual_laws}
 use Rattle.alg_laws.specs.NumberParts.{lifted, NumberValid}
 use Rattle.alg_laws.specs.Operations.{Operations, IsAlgebra}
-use Rattle.alg_laws.specs.Outcome.{Outcome, gives}
 use Rattle.alg_laws.specs.Related.{Relates, NumbersRelated, reals, integers, OutcomesRelated, IsLifted, Parts}
 use Rattle.alg_laws.specs.Rings.{product_zero, zero_product, negative_zero}
 use Rattle.alg_laws.proofs.Outcomes.{gives_related}
@@ -20,7 +18,7 @@ use Rattle.va_meaning.specs.Elaborated.{Elaborated}
 use Rattle.va_meaning.specs.EvaluationLaws.{PointValid}
 use Rattle.va_meaning.specs.Motions.{Motion, still, moving, is_below}
 use Rattle.va_meaning.specs.Points.{Point}
-use Rattle.va_meaning.specs.Related.{Alike, both_give, same_ends}
+use Rattle.va_meaning.specs.Related.{both_give, same_ends}
 use Rattle.va_meaning.specs.Residuals.{in_parts, moved_point, residual_parts}
 use Rattle.va_meaning.specs.TwoParts.{TwoParts, part_below, term_below, keeps_part, two_parts, moves_at, MovesAlone, TwoPartsOfResiduals}
 use Rattle.va_meaning.proofs.ClassFunctions.{evaluated_in}

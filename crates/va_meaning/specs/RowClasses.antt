@@ -1,5 +1,5 @@
 -- Rows of a module that keeps to classes of values: a row is of a class where all that is added up in it is.
-use Rattle.std.specs.Prelude.{◌≡◌, ℕ, ◌==◌, ◌||◌, Bool, true, Option, Some}
+use Rattle.std.specs.Prelude.{◌≡◌, ℕ, ◌==◌, ◌||◌, true, Some}
 use Rattle.std.specs.List.{position, slice_get}
 use Rattle.va_sem.specs.declared.branch.BranchKind.{BranchKind}
 use Rattle.va_sem.specs.declared.branch.BranchKind.TheVariants as kind
