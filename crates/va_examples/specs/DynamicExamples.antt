@@ -11,6 +11,9 @@ use Rattle.va_sem.specs.rules.Biased.{Analysis, analysis_of}
 use Rattle.va_tree.specs.declared.expr.BinaryOp.TheVariants.{Greater, Add, Multiply, Divide}
 use Rattle.va_tree.specs.declared.module.Item.{Item}
 use Rattle.va_tree.specs.declared.module.Ty.TheVariants as ty
+use Rattle.va_meaning.specs.Classes.{Slots, KeepsToClasses}
+use Rattle.va_meaning.specs.Motions.{Motion, still, moving}
+use Rattle.va_meaning.specs.TwoParts.{TwoParts, two_parts, moves_at, MovesAlone}
 use Rattle.va_meaning.specs.TimeParts.{KeepsReactive, IsRowUntimed, reactive_branches}
 use Rattle.va_meaning.specs.Timed.{KeepsToTime, HasLinearTime}
 use Rattle.va_examples.specs.Notation.{Text, whole, name, infinity, between, expression, system, of, across, contribute, contribute_alone, begins, if_only, if_or_else, defaulted, from, excluding, parameters, instance_parameters, alias, branch, node, variable, variables, assign, analog}
@@ -155,7 +158,17 @@ only_first x = x == 0
 abbrev pub stored_analysis : Analysis
 stored_analysis = let m = module_of stored in analysis_of (names_of_module (source_of m) 0 m) (analog_bodies m)
 
--- What is timed, and linear places.
+-- the variable q and what the branch holds rest in their resistive part
+abbrev pub stored_parts : Motion → ℕ → Slots TwoParts
+stored_parts react j = record {
+  variable = λ x. Some (record { resist = still; react = Some react });
+  held = λ b. Some (record { resist = still; react = Some react });
+  unknown = λ i. Some (record { resist = moves_at (i == j); react = None });
+  mark = λ b. true;
+  unsure = false;
+}
+
+-- What is timed, linear places, and what moves.
 pub record WorkedTimes : Type 0 where
   -- q, the variable of number 0, is timed and biased; what is contributed is linear in it
   pub keeps : KeepsToTime (model stored) only_first
@@ -168,4 +181,10 @@ pub record WorkedTimes : Type 0 where
   pub found_reactive : map (reactive_branches stored_analysis) (0 ∷ 1 ∷ []) ≡ true ∷ false ∷ []
   pub row_of_a_is_timed : IsRowUntimed (model stored) only_first (Node 0) → ⊥
   pub row_of_c_is_untimed : IsRowUntimed (model stored) only_first (Node 1)
+  -- where c alone moves nothing of it does; where a does, q moves in its reactive part
+  pub keeps_where_c_moves : KeepsToClasses (model stored) two_parts (stored_parts still 1)
+  pub c_alone : MovesAlone 1 (stored_parts still 1)
+  pub q_must_move : KeepsToClasses (model stored) two_parts (stored_parts still 0) → ⊥
+  pub keeps_where_a_moves : KeepsToClasses (model stored) two_parts (stored_parts moving 0)
+  pub columns : columns_at stored by_default (5 ∷ 3 ∷ []) ≡ gives ((part 0 3 ∷ part 0 0 ∷ []) ∷ (part 0 0 ∷ part 0 0 ∷ []) ∷ [])
   pub parts_of_rows : rows_at stored by_default (5 ∷ 3 ∷ []) ≡ gives (part 0 15 ∷ part 0 0 ∷ [])

@@ -1,6 +1,6 @@
 -- Rows of two evaluations of a module that keeps to classes: a row is of a class where all that is added up in it is.
 use Rattle.std.specs.Prelude.{◌≡◌, ℕ, zero, suc, ◌+◌, ◌==◌, ◌||◌, Bool, true, false, if◌then◌else◌, List, [], ◌∷◌, ◌++◌, Option, Some, None, map, fold}
-use Rattle.std.specs.List.{position, slice_get}
+use Rattle.std.specs.List.{slice_get}
 use Rattle.std.proofs.Common.{refl, ap, subst, arith}
 use Rattle.alg_laws.specs.Related.{ListsRelated, no_more as none_more, one_more}
 use Rattle.alg_laws.proofs.Related.{chosen_related}
@@ -10,29 +10,16 @@ use Rattle.va_sem.specs.declared.branch.Unknown.{Unknown}
 use Rattle.va_sem.specs.declared.branch.Unknown.TheVariants.{Node, Branch}
 use Rattle.va_sem.specs.declared.names.BranchName.{BranchName}
 use Rattle.va_tree.specs.declared.source.Quantity.TheVariants.{Potential, Flow}
-use Rattle.va_meaning.specs.Classes.{Classes, AreOrdered, Slots, IfSure, IsSure, UnknownIn, NodesIn, ContextsInClasses, StatesInClasses}
+use Rattle.va_meaning.specs.Classes.{Classes, AreOrdered, Slots, IfSure, IsSure, ContextsInClasses, StatesInClasses}
 use Rattle.va_meaning.specs.Elaborated.{Elaborated}
 use Rattle.va_meaning.specs.Evaluation.{evaluated}
 use Rattle.va_meaning.specs.Points.{Context, State, is_quantity}
 use Rattle.va_meaning.specs.Related.{Endings, IsClosed, Alike, both_give, HeldRelated}
+use Rattle.va_meaning.specs.RowClasses.{HeldIn, FlowIn, RowIn}
 use Rattle.va_meaning.specs.Rows.{is_end, flow_of, given_to, all_given_to, row, residuals}
-use Rattle.va_meaning.specs.Unknowns.{is_unknown, branch_of}
+use Rattle.va_meaning.specs.Unknowns.{branch_of}
 use Rattle.va_meaning.proofs.Classes.{zero_in, unknown_in, nodes_in}
 use Rattle.va_meaning.proofs.Endings.{then_alike}
-
-module _ {C : Type 0} (M : Elaborated) (K : Classes C) (slots : Slots C) (k : C) where
-  abbrev pub HeldIn : ℕ → Type 0
-  HeldIn b = IsSure (λ l. K.below l k) (slots.held b)
-
-  abbrev pub FlowIn : ℕ → BranchKind → Type 0
-  FlowIn b kind.Flow = HeldIn b
-  FlowIn b kind.Collapsing = HeldIn b
-  FlowIn b kind.Potential = UnknownIn M K slots k (position (is_unknown (Branch b)) M.unknowns)
-
-  -- a row is of the class
-  abbrev pub RowIn : Unknown → Type 0
-  RowIn (Node a) = (b : ℕ) (branch : BranchName) → slice_get M.branches b ≡ Some branch → (branch.plus == a || is_end a branch.minus) ≡ true → FlowIn b (M.kind b)
-  RowIn (Branch b) = NodesIn M K slots k (branch_of M b).plus (branch_of M b).minus × HeldIn b
 
 after_left : (a b : Bool) → a ≡ true → (a || b) ≡ true
 after_left a b e = λ j. e j || b

@@ -26,6 +26,7 @@ pub mod SetUpsRelated
 pub mod TimeLaws
 pub mod TimeParts
 pub mod Timed
+pub mod TwoParts
 pub mod TypeLaws
 pub mod TypedStores
 pub mod Types

@@ -23,7 +23,7 @@ use Rattle.va_meaning.proofs.Classes.{same_integers}
 use Rattle.va_meaning.proofs.ClassFunctions.{evaluated_in}
 use Rattle.va_meaning.proofs.Endings.{same_closed, same_related, weaker_itself}
 
-below_then : (k l m : Motion) → is_below k l → is_below l m → is_below k m
+pub below_then : (k l m : Motion) → is_below k l → is_below l m → is_below k m
 below_then still l m h i = tt
 below_then moving still m h i = absurd h
 below_then moving moving m h i = i

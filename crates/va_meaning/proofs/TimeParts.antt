@@ -42,6 +42,7 @@ use Rattle.va_meaning.specs.Points.{Point, Context, Answers, Store, over}
 use Rattle.va_meaning.specs.Related.{Alike, same_ends}
 use Rattle.va_meaning.specs.Residuals.{lifted_point}
 use Rattle.va_meaning.specs.Rows.{residuals}
+use Rattle.va_meaning.specs.RowClasses.{FlowIn, RowIn}
 use Rattle.va_meaning.specs.TimeParts.{moves_if, moves_with_time, ContributionKeepsTime, ContributedInTime, KeepsReactive, IsRowUntimed, PartsByTime, is_contributed_to, reactive_branches, TimesOfEvaluations}
 use Rattle.va_meaning.specs.Timed.{IsCallUntimed, IsNameUntimed, IsUntimed, AreUntimed, IsFirstUntimed, InitialisersUntimed, AssignmentKeepsTime, ValueKeepsTime, HoldsNoDdt, FunctionHoldsNoDdt, KeepsToTime}
 use Rattle.va_meaning.specs.Types.{result_type}
@@ -49,7 +50,7 @@ use Rattle.va_meaning.specs.Unknowns.{is_unknown, branch_of}
 use Rattle.va_meaning.specs.Values.{value_of}
 use Rattle.va_meaning.proofs.Classes.{value_in}
 use Rattle.va_meaning.proofs.ClassFunctions.{functions_in, evaluated_in}
-use Rattle.va_meaning.proofs.ClassRows.{FlowIn, RowIn, RowsIn, residuals_in}
+use Rattle.va_meaning.proofs.ClassRows.{RowsIn, residuals_in}
 use Rattle.va_meaning.proofs.Endings.{same_closed, same_related, weaker_itself}
 use Rattle.va_meaning.proofs.Everything.{IsUnder, operator_any, up_in_place, everything_in, function_any_keeps}
 use Rattle.va_meaning.proofs.KeepsFrom.{each_keeps, blocks_keep}

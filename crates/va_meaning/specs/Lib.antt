@@ -13,6 +13,7 @@ pub mod Nesting
 pub mod Points
 pub mod Related
 pub mod Residuals
+pub mod RowClasses
 pub mod Rows
 pub mod Runs
 pub mod SetUp
@@ -20,6 +21,7 @@ pub mod SetUpLaws
 pub mod TimeLaws
 pub mod TimeParts
 pub mod Timed
+pub mod TwoParts
 pub mod TypeLaws
 pub mod Types
 pub mod Unknowns

@@ -9,6 +9,7 @@ ghost use Rattle.va_meaning.specs.EvaluationLaws.{BoundsOfEvaluations, DepthsOfF
 ghost use Rattle.va_meaning.specs.Motions.{MotionsOfEvaluations};
 ghost use Rattle.va_meaning.specs.SetUpLaws.{ErrorsOfSetUps, LiftsOfSetUps, MainsOfSetUps, PointsOfSetUps};
 ghost use Rattle.va_meaning.specs.TimeParts.{TimesOfEvaluations};
+ghost use Rattle.va_meaning.specs.TwoParts.{TwoPartsOfResiduals};
 ghost use Rattle.va_meaning.specs.TypeLaws.{TypesOfValues};
 
 use alg_laws::Algebra;
@@ -48,6 +49,12 @@ pub fn motions_of_evaluations<A: Algebra, E: Drop>(_law: PhantomData<A>, _ends: 
 /// what branches hold, and rows. So it is in every module of a text without faults (Time derivative operator).
 pub fn times_of_evaluations<A: Algebra, E: Drop>(_law: PhantomData<A>, _ends: PhantomData<E>)
     ensures { AtThree A.ops A.valid (TimesOfEvaluations E) }
+{}
+
+/// Where a module keeps to what moves with one unknown, the entries of this unknown's column are 0 in the rows whose resistive or reactive
+/// part doesn't move (`jacobian_entries` of OSDI 0.3).
+pub fn two_parts_of_residuals<A: Algebra>(_law: PhantomData<A>)
+    ensures { AtThree A.ops A.valid TwoPartsOfResiduals }
 {}
 
 /// An evaluation that is defined is the same where loops may make more turns, and one that ends early for another reason than want of

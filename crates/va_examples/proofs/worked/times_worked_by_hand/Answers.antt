@@ -1,9 +1,11 @@
-use Rattle.std.specs.Prelude.{◌≡◌, zero, suc, ◌==◌, ◌||◌, true, false, None}
+use Rattle.std.specs.Prelude.{◌≡◌, zero, suc, ◌==◌, ◌||◌, true, false, None, Some}
 use Rattle.std.proofs.Common.{refl, sym, ◌∙◌}
 use Rattle.va_sem.specs.declared.branch.Unknown.TheVariants.{Node}
 use Rattle.va_sem.specs.declared.names.BranchName.{BranchName}
+use Rattle.va_meaning.specs.Motions.{still, moving}
 use Rattle.va_meaning.specs.Rows.{is_end}
 use Rattle.va_meaning.specs.TimeParts.{IsRowUntimed}
+use Rattle.va_meaning.proofs.Motions.{below_then}
 use Rattle.va_examples.specs.DynamicExamples.{stored, only_first}
 use Rattle.va_examples.specs.Examples.{model}
 use Rattle.va_meaning.specs.Timed.{derivative, plain_times, variable}
@@ -33,5 +35,30 @@ returns c = record {
   found_reactive = refl;
   row_of_a_is_timed = λ h. (let e = h 0 _ refl refl in cc (e));
   row_of_c_is_untimed = other_row;
+  keeps_where_c_moves = record {
+    functions = λ f k closed. tt;
+    initialisers = tt;
+    blocks = (
+      (
+        (refl, (record { resist = still; react = None }, tt, ((tt, tt), tt))),
+        (((refl, (record { resist = still; react = None }, record { resist = still; react = Some still }, (tt, tt, (tt, tt), tt), tt, (tt, tt))), (λ i d. cc (d))), tt),
+      ),
+      tt,
+    );
+  };
+  c_alone = λ i. refl;
+  q_must_move = λ k. (let a = k.blocks.0.0.1 in below_then moving a.0.resist still a.2.0.0 a.1);
+  keeps_where_a_moves = record {
+    functions = λ f k closed. tt;
+    initialisers = tt;
+    blocks = (
+      (
+        (refl, (record { resist = moving; react = None }, tt, ((tt, tt), tt))),
+        (((refl, (record { resist = still; react = None }, record { resist = still; react = Some moving }, (tt, tt, (tt, tt), tt), tt, (tt, tt))), (λ i d. cc (d))), tt),
+      ),
+      tt,
+    );
+  };
+  columns = refl;
   parts_of_rows = refl;
 }
