@@ -2,4 +2,4 @@ pub mod Endings
 pub mod Lines
 pub mod Related
 pub mod Outside
-pub mod Laws
+pub mod LawsProved

@@ -38,17 +38,21 @@ merged_outside side (m ∷ ms) inner outer k e =
     not_chosen (k == m.number) (inner (side m)) (merged side ms inner outer k) parts.0 ∙ merged_outside side ms inner outer k parts.1
 
 -- what holds of the value that a computation gives, if it gives one
-abbrev pub IfItGives : {E A : Type 0} → (A → Type 0) → Outcome E A → Type 0
-IfItGives P (gives x) = P x
-IfItGives P (ends e) = Unit {0}
+pub data IfItGives {E A : Type 0} (P : A → Type 0) : Outcome E A → Type 0 where
+  it_gives : {x : A} → P x → IfItGives P (gives x)
+  it_ends : {e : E} → IfItGives P (ends e)
 
-then_gives : {E A B : Type 0} (Q : A → Type 0) (P : B → Type 0) (a : Outcome E A) (f : A → Outcome E B) → IfItGives Q a → ((x : A) → Q x → IfItGives P (f x)) → IfItGives P (a >>= f)
-then_gives Q P (gives x) f h k = k x h
-then_gives Q P (ends e) f h k = tt
+then_gives : {E A B : Type 0} (Q : A → Type 0) (P : B → Type 0) {a : Outcome E A} (f : A → Outcome E B) → IfItGives Q a → ((x : A) → Q x → IfItGives P (f x)) → IfItGives P (a >>= f)
+then_gives Q P f (it_gives {x = x} h) k = k x h
+then_gives Q P f it_ends k = it_ends
 
-of_any : {E A : Type 0} (P : A → Type 0) → ((x : A) → P x) → (a : Outcome E A) → IfItGives P a
-of_any P h (gives x) = h x
-of_any P h (ends e) = tt
+anything : {A : Type 0} → A → Type 0
+anything x = Unit {0}
+
+of_any : {E A : Type 0} (a : Outcome E A) → IfItGives anything a
+unfolding anything
+of_any (gives x) = it_gives tt
+of_any (ends e) = it_ends
 
 chosen_gives : {E A : Type 0} (P : A → Type 0) (b : Bool) (x y : Outcome E A) → IfItGives P x → IfItGives P y → IfItGives P (if b then x else y)
 chosen_gives P true x y h k = h
@@ -57,45 +61,49 @@ chosen_gives P false x y h k = k
 turns_give : {E S T : Type 0} (P : S → Type 0) (Q : T → Type 0) (too_many : E) (before : S → Outcome E T) (goes : T → Bool) (turn : T → Outcome E S)
     → ((s : S) → P s → IfItGives Q (before s)) → ((t : T) → Q t → IfItGives P (turn t)) → (n : ℕ) (s : S) → P s → IfItGives Q (turns too_many before goes turn n s)
 turns_give P Q too_many before goes turn h k zero s p =
-    then_gives Q Q _ _ (h s p) (λ t q. chosen_gives Q (goes t) _ _ tt q)
+    then_gives Q Q _ (h s p) (λ t q. chosen_gives Q (goes t) _ _ it_ends (it_gives q))
 turns_give P Q too_many before goes turn h k (suc n) s p =
-    then_gives Q Q _ _ (h s p)
-    (λ t q. chosen_gives Q (goes t) _ _ (then_gives P Q _ _ (k t q) (turns_give P Q too_many before goes turn h k n)) q)
+    then_gives Q Q _ (h s p)
+    (λ t q. chosen_gives Q (goes t) _ _ (then_gives P Q _ (k t q) (turns_give P Q too_many before goes turn h k n)) (it_gives q))
 
-pub gave : {E A : Type 0} (P : A → Type 0) (a : Outcome E A) (x : A) → IfItGives P a → a ≡ gives x → P x
-gave P a x h e = subst (λ b. IfItGives P b) e h
+pub gave : {E A : Type 0} (P : A → Type 0) {a : Outcome E A} (x : A) → IfItGives P a → a ≡ gives x → P x
+gave P x (it_gives {x = y} h) e =
+    let same : y ≡ x = cc (e) in
+    subst P same h
+gave P x it_ends e = cc (e)
 
 module _ {E V : Type 0} (c : Context E V) (F : Calls E V) (k : ℕ) where
   abbrev pub KeepsIt : Values V → Values V → Type 0
   KeepsIt v w = w k ≡ v k
 
+  later : (v w : Values V) → KeepsIt v w → {a : Outcome E (Values V)} → IfItGives (KeepsIt w) a → IfItGives (KeepsIt v) a
+  later v w p (it_gives q) = it_gives (q ∙ p)
+  later v w p it_ends = it_ends
+
+  abbrev HeadKeepsIt : Values V → AtTest V → Type 0
+  HeadKeepsIt v t = KeepsIt v t.head
+
   mutual
     step_keeps : (s : Step) (v : Values V) → is_among k (seen_of_step s) ≡ false → IfItGives (KeepsIt v) (run_step c F s v)
     step_keeps (value j t op) v e =
-        then_gives (λ x. Unit {0}) (KeepsIt v) (computed c F op v) _ (of_any (λ x. Unit {0}) (λ x. tt) (computed c F op v))
-        (λ x q. not_chosen (k == j) x (v k) (neither (k == j) false e).0)
+        then_gives anything (KeepsIt v) _ (of_any (computed c F op v)) (λ x q. it_gives (not_chosen (k == j) x (v k) (neither (k == j) false e).0))
     step_keeps (choice test a b joins) v e =
         chosen_gives (KeepsIt v) (is_true c.ops (v test)) _ _
-        (then_gives (λ x. Unit {0}) (KeepsIt v) (run c F a v) _ (of_any (λ x. Unit {0}) (λ x. tt) (run c F a v)) (λ w q. merged_outside first_of joins w v k e))
-        (then_gives (λ x. Unit {0}) (KeepsIt v) (run c F b v) _ (of_any (λ x. Unit {0}) (λ x. tt) (run c F b v)) (λ w q. merged_outside second_of joins w v k e))
+        (then_gives anything (KeepsIt v) _ (of_any (run c F a v)) (λ w q. it_gives (merged_outside first_of joins w v k e)))
+        (then_gives anything (KeepsIt v) _ (of_any (run c F b v)) (λ w q. it_gives (merged_outside second_of joins w v k e)))
     step_keeps (loop heads before test turn) v e =
-        then_gives (λ (t : AtTest V). KeepsIt v t.head) (KeepsIt v) _ _
-        (turns_give (KeepsIt v) (λ (t : AtTest V). KeepsIt v t.head) _ _ _ _
-        (λ s p. then_gives (λ x. Unit {0}) (λ (t : AtTest V). KeepsIt v t.head) (run c F before s) _ (of_any (λ x. Unit {0}) (λ x. tt) (run c F before s)) (λ w q. p))
-        (λ t p. then_gives (λ x. Unit {0}) (KeepsIt v) (run c F turn t.inner) _ (of_any (λ x. Unit {0}) (λ x. tt) (run c F turn t.inner)) (λ w q. merged_outside second_of heads w v k e))
+        then_gives (HeadKeepsIt v) (KeepsIt v) _
+        (turns_give (KeepsIt v) (HeadKeepsIt v) _ _ _ _
+        (λ s p. then_gives anything (HeadKeepsIt v) _ (of_any (run c F before s)) (λ w q. it_gives p))
+        (λ t p. then_gives anything (KeepsIt v) _ (of_any (run c F turn t.inner)) (λ w q. it_gives (merged_outside second_of heads w v k e)))
         c.bound _ (merged_outside first_of heads v v k e))
-        (λ t p. p)
+        (λ t p. it_gives p)
 
     pub steps_keep : (s : Steps) (v : Values V) → is_among k (seen s) ≡ false → IfItGives (KeepsIt v) (run c F s v)
-    steps_keep stop v e = refl
+    steps_keep stop v e = it_gives refl
     steps_keep (step s rest) v e =
         let parts = among_both k (seen_of_step s) (seen rest) e in
-        then_gives (KeepsIt v) (KeepsIt v) (run_step c F s v) _ (step_keeps s v parts.0)
-        (λ w p. later v w p (run c F rest w) (steps_keep rest w parts.1))
-
-    later : (v w : Values V) → KeepsIt v w → (a : Outcome E (Values V)) → IfItGives (KeepsIt w) a → IfItGives (KeepsIt v) a
-    later v w p (gives u) q = q ∙ p
-    later v w p (ends e) q = tt
+        then_gives (KeepsIt v) (KeepsIt v) _ (step_keeps s v parts.0) (λ w p. later v w p (steps_keep rest w parts.1))
 
 -- steps behind others
 grouped : {E A B C : Type 0} (x : Outcome E A) (f : A → Outcome E C) (g : A → Outcome E B) (h : B → Outcome E C) → ((a : A) → f a ≡ (g a >>= h)) → (x >>= f) ≡ ((x >>= g) >>= h)

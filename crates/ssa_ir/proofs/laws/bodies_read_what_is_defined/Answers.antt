@@ -1,6 +1,6 @@
 use Rattle.alg_laws.specs.AtFour.{at_four}
 use Rattle.ssa_ir.specs.Laws.{ReadsWhatIsDefined}
-use Rattle.ssa_ir.proofs.Laws.{reads_what_is_defined}
+use Rattle.ssa_ir.proofs.LawsProved.{reads_what_is_defined}
 use Rattle.ssa_ir.proofs.laws.bodies_read_what_is_defined.Goals as goal
 
 pub returns : goal.returns

@@ -1,6 +1,6 @@
 use Rattle.alg_laws.specs.AtFour.{at_four}
 use Rattle.ssa_ir.specs.Laws.{BoundsOfBodies}
-use Rattle.ssa_ir.proofs.Laws.{bounds_of_bodies}
+use Rattle.ssa_ir.proofs.LawsProved.{bounds_of_bodies}
 use Rattle.ssa_ir.proofs.laws.bounds_of_bodies.Goals as goal
 
 pub returns : goal.returns

@@ -1,6 +1,6 @@
 use Rattle.alg_laws.specs.AtFour.{at_three}
 use Rattle.ssa_ir.specs.Laws.{LiftsOfBodies}
-use Rattle.ssa_ir.proofs.Laws.{lifts_of_bodies}
+use Rattle.ssa_ir.proofs.LawsProved.{lifts_of_bodies}
 use Rattle.ssa_ir.proofs.laws.lifts_of_bodies.Goals as goal
 
 pub returns : goal.returns

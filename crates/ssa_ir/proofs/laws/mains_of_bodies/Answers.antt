@@ -1,6 +1,6 @@
 use Rattle.alg_laws.specs.AtFour.{at_three}
 use Rattle.ssa_ir.specs.Laws.{MainsOfBodies}
-use Rattle.ssa_ir.proofs.Laws.{mains_of_bodies}
+use Rattle.ssa_ir.proofs.LawsProved.{mains_of_bodies}
 use Rattle.ssa_ir.proofs.laws.mains_of_bodies.Goals as goal
 
 pub returns : goal.returns

@@ -1,6 +1,6 @@
 use Rattle.alg_laws.specs.AtFour.{at_four}
 use Rattle.ssa_ir.specs.Laws.{KeepsOutside}
-use Rattle.ssa_ir.proofs.Laws.{keeps_outside}
+use Rattle.ssa_ir.proofs.LawsProved.{keeps_outside}
 use Rattle.ssa_ir.proofs.laws.runs_keep_what_is_outside.Goals as goal
 
 pub returns : goal.returns

@@ -1,4 +1,4 @@
-use Rattle.ssa_ir.proofs.Laws.{steps_are_their_lines}
+use Rattle.ssa_ir.proofs.LawsProved.{steps_are_their_lines}
 use Rattle.ssa_ir.proofs.laws.steps_are_their_lines.Goals as goal
 
 pub returns : goal.returns

@@ -1,6 +1,6 @@
 use Rattle.alg_laws.specs.AtFour.{at_four}
 use Rattle.ssa_ir.specs.Laws.{RunsInSequence}
-use Rattle.ssa_ir.proofs.Laws.{runs_in_sequence}
+use Rattle.ssa_ir.proofs.LawsProved.{runs_in_sequence}
 use Rattle.ssa_ir.proofs.laws.steps_run_in_sequence.Goals as goal
 
 pub returns : goal.returns

@@ -1,6 +1,6 @@
 use Rattle.alg_laws.specs.AtFour.{at_four}
 use Rattle.ssa_ir.specs.Laws.{ValidityOfBodies}
-use Rattle.ssa_ir.proofs.Laws.{validity_of_bodies}
+use Rattle.ssa_ir.proofs.LawsProved.{validity_of_bodies}
 use Rattle.ssa_ir.proofs.laws.validity_of_bodies.Goals as goal
 
 pub returns : goal.returns

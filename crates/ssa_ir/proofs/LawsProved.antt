@@ -54,7 +54,7 @@ module _ {E V : Type 0} (o : Operations V) (valid : V → Type 0) where
   pub keeps_outside : KeepsOutside E V o valid
   keeps_outside = record {
     steps = λ inputs n stops F s v w e k outside.
-        gave (KeepsIt (over o inputs n stops) F k v) (run (over o inputs n stops) F s v) w (steps_keep (over o inputs n stops) F k s v outside) e;
+        gave (KeepsIt (over o inputs n stops) F k v) w (steps_keep (over o inputs n stops) F k s v outside) e;
   }
 
   pub runs_in_sequence : RunsInSequence E V o valid
