@@ -1,6 +1,6 @@
 -- Computations that give related values, or end early as they may: sequences, choices, loops.
-use Rattle.std.specs.Prelude.{◌≡◌, ℕ, zero, suc, ◌≤◌, ◌⊎◌, Bool}
-use Rattle.std.proofs.Common.{refl, subst, arith, inl, inr}
+use Rattle.std.specs.Prelude.{◌≡◌, ℕ, zero, suc, Bool}
+use Rattle.std.proofs.Common.{subst, arith, inl, inr}
 use Rattle.alg_laws.specs.declared.number.Reason.{Reason}
 use Rattle.alg_laws.specs.Loop.{turns}
 use Rattle.alg_laws.specs.Outcome.{Outcome, gives, ends, ◌>>=◌, among}

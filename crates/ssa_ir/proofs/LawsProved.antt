@@ -1,7 +1,6 @@
 -- The laws of bodies: each is one of evaluations that are related.
-use Rattle.std.specs.Prelude.{◌≡◌, ℕ, ◌≤◌, List}
+use Rattle.std.specs.Prelude.{◌≡◌, ℕ, List}
 use Rattle.std.proofs.Common.{refl, inl, inr}
-use Rattle.alg_laws.specs.declared.dual.Dual.{Dual}
 use Rattle.alg_laws.specs.declared.number.Reason.{Reason}
 use Rattle.alg_laws.specs.declared.number.Reason.TheVariants.{Turns}
 use Rattle.alg_laws.specs.Dual.{dual}
@@ -14,7 +13,7 @@ use Rattle.ssa_ir.specs.Context.{Inputs, over}
 use Rattle.ssa_ir.specs.Evaluation.{Values, calls, run}
 use Rattle.ssa_ir.specs.Invariant.{Frame, Scope, IsTyped, behind}
 use Rattle.ssa_ir.specs.Laws.{StepsAreTheirLines, KeepsOutside, RunsInSequence, Knows, ReadsWhatIsDefined, BoundsOfBodies, MainsOfBodies, ValidityOfBodies, LiftsOfBodies}
-use Rattle.ssa_ir.specs.Related.{Endings, same_ends, more_turns, ValuesRelated, InputsRelated, ContextsRelated}
+use Rattle.ssa_ir.specs.Related.{same_ends, more_turns, ValuesRelated, InputsRelated}
 use Rattle.ssa_ir.proofs.Endings.{same_closed, more_closed, same_related}
 use Rattle.ssa_ir.proofs.Lines.{steps_of_lines}
 use Rattle.ssa_ir.proofs.Outside.{gave, KeepsIt, steps_keep, run_both, scope_both, typed_both}

@@ -1,13 +1,12 @@
 -- A run keeps what is outside, and steps that stand one after the other are run one after the other.
 use Rattle.std.specs.Prelude.{◌≡◌, ℕ, zero, suc, ◌==◌, Bool, true, false, ◌||◌, if◌then◌else◌, List, [], ◌∷◌, ◌++◌}
-use Rattle.std.proofs.Common.{refl, sym, ap, subst, ◌∙◌}
-use Rattle.alg_laws.specs.declared.number.Number.{Number}
+use Rattle.std.proofs.Common.{refl, subst, ◌∙◌}
 use Rattle.alg_laws.specs.NumberOps.{is_true}
 use Rattle.alg_laws.specs.Outcome.{Outcome, gives, ends, ◌>>=◌}
 use Rattle.alg_laws.specs.Loop.{turns}
 use Rattle.ssa_ir.specs.Body.{Merge, first_of, second_of, Step, Steps, value, choice, loop, stop, step, ◌⧺◌, merge_numbers, seen_of_step, seen}
 use Rattle.ssa_ir.specs.Context.{Context}
-use Rattle.ssa_ir.specs.Evaluation.{Values, Calls, AtTest, at_test, merged, with_value, computed, run_step, run}
+use Rattle.ssa_ir.specs.Evaluation.{Values, Calls, AtTest, merged, computed, run_step, run}
 use Rattle.ssa_ir.specs.Invariant.{Frame, Scope, IsTyped, behind, behind_step}
 use Rattle.ssa_ir.specs.Laws.{is_among}
 

@@ -1,18 +1,18 @@
 -- Bodies over related algebras go alike. A body that obeys the invariant reads what is in scope and what its frame has, so no more
 -- than that has to be related.
-use Rattle.std.specs.Prelude.{◌≡◌, ℕ, zero, suc, ◌<◌, ◌==◌, Bool, true, false, not, ℤ, pos, if◌then◌else◌, List, [], ◌∷◌, ◌++◌, Option, Some, map, length, get_or}
+use Rattle.std.specs.Prelude.{◌≡◌, ℕ, zero, suc, ◌==◌, Bool, true, false, not, ℤ, pos, if◌then◌else◌, List, [], ◌∷◌, ◌++◌, Option, Some, map, length, get_or}
 use Rattle.std.specs.List.{slice_get}
 use Rattle.std.proofs.Common.{refl, ap, subst, sym, ◌∙◌, arith}
 use Rattle.std.proofs.lemmas.Bool.Decides.{nat_tests}
 use Rattle.alg_laws.specs.declared.number.Number.{Number}
-use Rattle.alg_laws.specs.declared.number.Number.TheVariants.{Real, Int}
+use Rattle.alg_laws.specs.declared.number.Number.TheVariants.{Int}
 use Rattle.alg_laws.specs.declared.number.Reason.{Reason}
 use Rattle.alg_laws.specs.declared.number.Reason.TheVariants.{Turns}
 use Rattle.alg_laws.specs.declared.number.Ty.{Ty}
 use Rattle.alg_laws.specs.declared.number.Ty.TheVariants as type
 use Rattle.alg_laws.specs.IntegerOps.{ranged, int_sum, int_difference, int_product, int_negative, int_quotient, int_remainder}
-use Rattle.alg_laws.specs.NumberOps.{as_int, truth, is_true, sum_of, difference_of, product_of, quotient_of, remainder_of}
-use Rattle.alg_laws.specs.Outcome.{Outcome, gives, ends, ◌>>=◌}
+use Rattle.alg_laws.specs.NumberOps.{as_int, truth, is_true}
+use Rattle.alg_laws.specs.Outcome.{Outcome, gives, ends}
 use Rattle.alg_laws.specs.Related.{NumbersRelated, reals as reals_related, integers as integers_related, OutcomesRelated, both_give as outcomes_give, both_end as outcomes_end}
 use Rattle.alg_laws.proofs.Related.{chosen_related, literal_related, whole_related, to_real_related, is_true_related, is_less_related, is_at_most_related, is_same_related}
 use Rattle.ssa_ir.specs.declared.body.BinaryOperator.{BinaryOperator}
@@ -21,12 +21,12 @@ use Rattle.ssa_ir.specs.declared.body.Operation.{Operation}
 use Rattle.ssa_ir.specs.declared.body.UnaryOperator.{UnaryOperator}
 use Rattle.ssa_ir.specs.Body.{Merge, first_of, second_of, Step, Steps, value, choice, loop, stop, step}
 use Rattle.ssa_ir.specs.Context.{Context, Inputs, told}
-use Rattle.ssa_ir.specs.Evaluation.{Values, Calls, with_value, merged, AtTest, at_test, unary_value, binary_value, computed, run_step, run, function_value, calls_from, calls}
+use Rattle.ssa_ir.specs.Evaluation.{Values, Calls, with_value, merged, AtTest, unary_value, binary_value, computed, run_step, run, function_value, calls_from, calls}
 use Rattle.ssa_ir.specs.Flat.{steps_of}
 use Rattle.ssa_ir.specs.Invariant.{Signature, Frame, Scope, UnaryType, negative, contrary, to_real, to_integer, time_derivative, BinaryType, sum, difference, product, quotient, remainder, less, at_most, equal, not_equal, AreInScope, HasType, literal, integer, parameter, given, temperature, unknown, cell, unary, binary, one, two, call, with_merges, behind_step, behind, IsInScope, MergesIn, StepIsTyped, IsTyped, arguments_in, signature_of, function_frame, IsFunction, AreFunctions, signatures_from, signatures}
 use Rattle.ssa_ir.specs.Invariant.{no_more as none_in_scope, one_more as one_in_scope}
 use Rattle.ssa_ir.specs.Laws.{Knows}
-use Rattle.ssa_ir.specs.Related.{Endings, IsClosed, Alike, both_give, both_end, RelatedAt, reals, integers, ValuesRelated, InputsRelated, ContextsRelated, ArgumentsRelated, no_more, one_more, CallsRelated}
+use Rattle.ssa_ir.specs.Related.{Endings, IsClosed, Alike, both_give, RelatedAt, reals, integers, ValuesRelated, InputsRelated, ContextsRelated, ArgumentsRelated, no_more, one_more, CallsRelated}
 use Rattle.ssa_ir.proofs.Endings.{told_alike, then_alike, turns_alike}
 
 -- values of a type are values
@@ -220,7 +220,7 @@ module _ {E F V W : Type 0} (g : Endings E F) (closed : IsClosed g) (c : Context
       → (v : Values V) (w : Values W) → ValuesRelated R sc v w → Alike g (ValuesRelated R (behind s sc)) (run c (calls c fs) s v) (run d (calls d fs) s w)
   body_related f h fs knows sc s p v w q =
       let everywhere : (earlier : List Signature) → ContextsRelated g R (function_frame earlier) c d =
-          λ earlier. record { ops = h.ops; inputs = function_inputs R earlier c.inputs d.inputs; bound = h.bound; stops = h.stops } in
+      λ earlier. record { ops = h.ops; inputs = function_inputs R earlier c.inputs d.inputs; bound = h.bound; stops = h.stops } in
       let known : CallsRelated g R (signatures fs) (calls c fs) (calls d fs) =
-          calls_from_related everywhere [] 0 fs refl knows.functions _ _ (λ k s e xs ys r. cc (e)) in
+      calls_from_related everywhere [] 0 fs refl knows.functions _ _ (λ k s e xs ys r. cc (e)) in
       run_related g closed f c d R h (calls c fs) (calls d fs) (subst (λ (sigs : List Signature). CallsRelated g R sigs (calls c fs) (calls d fs)) (sym knows.known) known) sc s v w p q

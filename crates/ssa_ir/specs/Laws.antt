@@ -1,26 +1,25 @@
 -- What holds of every body over every algebra.
-use Rattle.std.specs.Prelude.{◌≡◌, ℕ, ◌≤◌, ◌==◌, Bool, true, false, ◌||◌, List, [], ◌∷◌}
+use Rattle.std.specs.Prelude.{◌≡◌, ℕ, ◌≤◌, ◌==◌, Bool, false, ◌||◌, List, [], ◌∷◌}
 use Rattle.alg_laws.specs.declared.dual.Dual.{Dual}
-use Rattle.alg_laws.specs.declared.number.Number.{Number}
 use Rattle.alg_laws.specs.declared.number.Reason.{Reason}
 use Rattle.alg_laws.specs.declared.number.Reason.TheVariants.{Turns}
 use Rattle.alg_laws.specs.Dual.{dual}
 use Rattle.alg_laws.specs.Operations.{Operations}
-use Rattle.alg_laws.specs.Outcome.{Outcome, gives, ends, ◌>>=◌}
+use Rattle.alg_laws.specs.Outcome.{gives, ◌>>=◌}
 use Rattle.alg_laws.specs.Related.{OutcomesRelated, HasMain, IsValid, IsLifted}
 use Rattle.ssa_ir.specs.declared.body.Function.{Function}
 use Rattle.ssa_ir.specs.Body.{Steps, ◌⧺◌, seen}
-use Rattle.ssa_ir.specs.Context.{Context, Inputs, over}
+use Rattle.ssa_ir.specs.Context.{Inputs, over}
 use Rattle.ssa_ir.specs.Evaluation.{Values, Calls, run, calls}
 use Rattle.ssa_ir.specs.Flat.{lines, steps_of}
 use Rattle.ssa_ir.specs.Invariant.{Frame, Scope, IsTyped, AreFunctions, behind, signatures}
-use Rattle.ssa_ir.specs.Related.{Alike, ValuesRelated, InputsRelated, CallsRelated, same_ends, more_turns}
+use Rattle.ssa_ir.specs.Related.{Alike, ValuesRelated, InputsRelated, more_turns}
 
 abbrev pub is_among : ℕ → List ℕ → Bool
 is_among k [] = false
 is_among k (j ∷ js) = k == j || is_among k js
 
--- The instructions of steps are these steps, and two that stand one after the other stand so in the list.
+-- The instructions of steps are read as these steps.
 pub record StepsAreTheirLines : Type 0 where
   pub steps : (s : Steps) → steps_of (lines s) ≡ s
 
@@ -51,7 +50,7 @@ pub record ReadsWhatIsDefined (E V : Type 0) (o : Operations V) (valid : V → T
       (run (over o others n stops) (calls (over o others n stops) fs) s w)
 
 -- A run that is defined where loops make at most n turns is the same for every greater bound, and one that ends early for another reason
--- than want of a turn stays so.
+-- than want of a turn stays so. Inputs and values that are related to themselves are those of their types.
 pub record BoundsOfBodies (E V : Type 0) (o : Operations V) (valid : V → Type 0) : Type 0 where
   pub steps : (f : Frame) (fs : List Function) → Knows f fs → (sc : Scope) (s : Steps) → IsTyped f sc s
       → (inputs : Inputs V) → InputsRelated ◌≡◌ f inputs inputs → (n m : ℕ) → n ≤ m → (stops : Reason → E)
@@ -67,7 +66,7 @@ pub record MainsOfBodies (E V : Type 0) (o : Operations V) (valid : V → Type 0
       → OutcomesRelated (ValuesRelated HasMain (behind s sc)) (run (over (dual o) inputs n stops) (calls (over (dual o) inputs n stops) fs) s v)
       (run (over o mains n stops) (calls (over o mains n stops) fs) s w)
 
--- From valid values a run has valid values.
+-- From valid values and inputs of their types a run has valid values of their types.
 pub record ValidityOfBodies (E V : Type 0) (o : Operations V) (valid : V → Type 0) : Type 0 where
   pub steps : (f : Frame) (fs : List Function) → Knows f fs → (sc : Scope) (s : Steps) → IsTyped f sc s
       → (inputs : Inputs V) → InputsRelated (IsValid valid) f inputs inputs → (n : ℕ) (stops : Reason → E)

@@ -26,10 +26,7 @@ pub fn steps_run_in_sequence<A: Algebra, E: Drop>(_law: PhantomData<A>, _ends: P
 
 /// A body that obeys the invariant never reads what isn't defined, nor what its frame doesn't have, and every number in scope has its
 /// type.
-pub fn bodies_read_what_is_defined<A: Algebra, E: Drop>(
-    _law: PhantomData<A>,
-    _ends: PhantomData<E>,
-)
+pub fn bodies_read_what_is_defined<A: Algebra, E: Drop>(_law: PhantomData<A>, _ends: PhantomData<E>)
     ensures { AtFour A.ops A.valid (ReadsWhatIsDefined E) }
 {}
 
