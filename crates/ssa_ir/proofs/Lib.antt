@@ -1,0 +1,5 @@
+pub mod Endings
+pub mod Lines
+pub mod Related
+pub mod Outside
+pub mod LawsProved

@@ -5,3 +5,5 @@ pub mod Evaluation
 pub mod Invariant
 pub mod Stages
 pub mod Worked
+pub mod Related
+pub mod Laws

@@ -5,6 +5,7 @@
 #![tactic(auto)]
 
 pub mod body;
+pub mod laws;
 pub mod stages;
 pub mod worked;
 
