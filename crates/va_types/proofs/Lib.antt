@@ -2,3 +2,4 @@ mod Finding
 mod Skipping
 mod Reading
 mod FittingKinds
+mod Visiting

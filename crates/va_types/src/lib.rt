@@ -7,6 +7,7 @@ pub mod expressions;
 pub mod found;
 pub mod kinds;
 pub mod operators;
+pub mod statements;
 pub mod table;
 
 pub use found::Found;
