@@ -1,0 +1,5 @@
+pub mod Bytes
+pub mod Finding
+pub mod Scoping
+pub mod Tabled
+pub mod SecondDeclarations

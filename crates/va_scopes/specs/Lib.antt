@@ -1,0 +1,5 @@
+pub mod Bindings
+pub mod Declaring
+pub mod Finds
+pub mod Seeing
+pub mod Tables
