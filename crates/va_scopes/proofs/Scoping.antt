@@ -1,9 +1,8 @@
 -- What is seen behind declarations, and where scopes open and close.
-use Rattle.std.proofs.Common.{◌≡◌, ℕ, List, [], ◌∷◌, ◌++◌, refl, ap, sym, ◌∙◌, subst}
-use Rattle.std.specs.Prelude.{Bool, true, false, not, if◌then◌else◌, Option, Some, None, option_map, map, filter}
+use Rattle.std.proofs.Common.{◌≡◌, ℕ, List, [], ◌∷◌, ◌++◌, refl, ap, sym, ◌∙◌}
+use Rattle.std.specs.Prelude.{Bool, true, false, if◌then◌else◌, Option, Some, None, option_map, map}
 use Rattle.std.specs.Option.{option_or}
 use Rattle.std.specs.Str.{bytes_eq}
-use Rattle.std.proofs.lemmas.List.Folds.{find-append}
 use Rattle.va_sem.specs.Scopes.{Declared, named, counting, is_builtin}
 use Rattle.va_sem.specs.ScopesLaws.{first_named}
 use Rattle.va_sem.proofs.ScopesByName.{scopes_by_name}
@@ -17,7 +16,7 @@ use Rattle.va_scopes.specs.declared.scopes.Scopes.{Scopes}
 use Rattle.va_scopes.specs.Tables.{by_name}
 use Rattle.va_scopes.specs.Bindings.{kind_of, thing_of, seen_of, seen_under, declared_by}
 use Rattle.va_scopes.specs.Declaring.{in_front, all_in_front}
-use Rattle.va_scopes.specs.Seeing.{Seeing, innermost_first, undone, Sees, Around, IsScope}
+use Rattle.va_scopes.specs.Seeing.{Seeing, innermost_first, undone, Around, IsScope}
 use Rattle.va_scopes.proofs.Bytes.{same_names}
 
 -- the innermost scope is the last
@@ -139,7 +138,6 @@ undo-step old new hidden rest last n popped restored =
     rw (popped, innermost-push rest last)
     (undone-same (innermost_first rest) new (λ j. if bytes_eq last.name.now j then last.seen else old j) restored n)
 
-
 -- declarations put before others are seen as those that count
 front_named : (names known : List Declared) (n : List ℕ) → named (all_in_front names known) n ≡ option_or (first_named names n) (named known n)
 front_named [] known n = by_test (is_builtin n)
@@ -147,20 +145,21 @@ front_named [] known n = by_test (is_builtin n)
     by_test : (b : Bool) → named known n ≡ option_or (if b then None else None) (named known n)
     by_test true = refl
     by_test false = refl
-front_named (d ∷ names) known n = by_tests (is_builtin d.name) (bytes_eq d.name n) refl refl
+front_named (d ∷ names) known n = by_tests (is_builtin d.name) (bytes_eq d.name n) refl refl (front_named names known n)
   where
     by_tests : (b t : Bool) → is_builtin d.name ≡ b → bytes_eq d.name n ≡ t
+        → named (all_in_front names known) n ≡ option_or (first_named names n) (named known n)
         → named (if b then all_in_front names known else d ∷ all_in_front names known) n ≡ option_or (first_named (d ∷ names) n) (named known n)
-    by_tests true true e h =
+    by_tests true true e h ih =
         let own : is_builtin n ≡ true = ap is_builtin (sym (same_names d.name n h)) ∙ e in
-        front_named names known n
+        ih
         ∙ ap (λ t. option_or (if t then None else named names n) (named known n)) own
         ∙ sym (ap (λ t. option_or (if t then None else named (d ∷ names) n) (named known n)) own)
-    by_tests true false e h = rw h (front_named names known n)
-    by_tests false true e h =
+    by_tests true false e h ih = rw h ih
+    by_tests false true e h ih =
         let own : is_builtin n ≡ false = ap is_builtin (sym (same_names d.name n h)) ∙ e in
         rw (h, own) refl
-    by_tests false false e h = rw h (front_named names known n)
+    by_tests false false e h ih = rw h ih
 
 -- so a place sees the same
 pub counted : (scopes : Scopes) (names known : List Declared) (outer : List (List Declared)) → IsScope scopes (all_in_front names known) outer

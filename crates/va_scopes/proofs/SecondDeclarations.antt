@@ -1,6 +1,6 @@
 -- Second declarations, by the names that stood before.
-use Rattle.std.proofs.Common.{◌≡◌, ◌<◌, ◌≤◌, ◌+◌, ℕ, List, [], ◌∷◌, ◌++◌, length, get_or, drop, drop-cons, refl, ap, sym, ◌∙◌, add-one, arith}
-use Rattle.std.specs.Prelude.{map, filter, Option, Some, None, Bool, true, false, ◌||◌, if◌then◌else◌, cond}
+use Rattle.std.proofs.Common.{◌≡◌, ◌<◌, ◌≤◌, ◌+◌, ℕ, List, [], ◌∷◌, ◌++◌, length, get_or, drop, drop-cons, refl, ap, sym, ◌∙◌, add-one}
+use Rattle.std.specs.Prelude.{map, Option, Some, Bool, true, false, ◌||◌, if◌then◌else◌, cond}
 use Rattle.std.specs.Option.{is_some}
 use Rattle.std.specs.List.{list_any}
 use Rattle.std.specs.Str.{bytes_eq}
@@ -13,6 +13,10 @@ use Rattle.va_sem.specs.NamesFaults.{FaultAt, all_at, fault_if}
 use Rattle.va_scopes.specs.declared.bindings.Binding.{Binding}
 use Rattle.va_scopes.specs.Bindings.{name_at}
 use Rattle.va_scopes.specs.Finds.{Finds, of_builtins}
+use denote.Bor.{Bor}
+use Rattle.std.specs.Map.{lookup}
+use Rattle.indexmap.specs.IndexMap.{IndexMap}
+use Rattle.va_scopes.specs.Tables.{by_name}
 use Rattle.va_scopes.proofs.Bytes.{same_names, bytes_sym}
 use Rattle.va_scopes.proofs.Finding.{◌▸◌, finds_none, finds_same}
 
@@ -41,17 +45,18 @@ already before name k e = by_test (bytes_eq name k) refl
 
 pub repeated_again : (before : List (List ℕ)) (xs : List NameAt) → all_at TwiceDeclared (repeated before xs) ≡ again_by (among before) xs
 repeated_again before [] = refl
-repeated_again before (n ∷ rest) = by_test (among before n.name) refl
+repeated_again before (n ∷ rest) = by_test (among before n.name) refl (repeated_again before rest) (repeated_again (n.name ∷ before) rest)
   where
     by_test : (b : Bool) → among before n.name ≡ b
+        → all_at TwiceDeclared (repeated before rest) ≡ again_by (among before) rest
+        → all_at TwiceDeclared (repeated (n.name ∷ before) rest) ≡ again_by (among (n.name ∷ before)) rest
         → all_at TwiceDeclared (if b then n.at ∷ repeated before rest else repeated (n.name ∷ before) rest)
         ≡ fault_if b n.at TwiceDeclared ++ again_by (λ k. bytes_eq n.name k || among before k) rest
-    by_test true e =
+    by_test true e same more =
         ap (λ l. (n.at, TwiceDeclared) ∷ l)
-        (repeated_again before rest
-        ∙ again_same (among before) (λ k. bytes_eq n.name k || among before k) rest (λ k. sym (already before n.name k e)))
-    by_test false e =
-        repeated_again (n.name ∷ before) rest
+        (same ∙ again_same (among before) (λ k. bytes_eq n.name k || among before k) rest (λ k. sym (already before n.name k e)))
+    by_test false e same more =
+        more
         ∙ again_same (among (n.name ∷ before)) (λ k. bytes_eq n.name k || among before k) rest
         (λ k. ap (λ t. t || among before k) (bytes_sym k n.name))
 
@@ -75,11 +80,12 @@ builtins_in (n ∷ rest) = fault_if (is_builtin n.name) n.at TwiceDeclared ++ bu
 
 pub builtins_listed : (xs : List NameAt) → builtins_in xs ≡ of_builtins xs
 builtins_listed [] = refl
-builtins_listed (n ∷ rest) = by_test (is_builtin n.name) refl
+builtins_listed (n ∷ rest) = by_test (is_builtin n.name) refl (builtins_listed rest)
   where
-    by_test : (b : Bool) → is_builtin n.name ≡ b → fault_if b n.at TwiceDeclared ++ builtins_in rest ≡ of_builtins (n ∷ rest)
-    by_test true e = rw e (ap (λ l. (n.at, TwiceDeclared) ∷ l) (builtins_listed rest))
-    by_test false e = rw e (builtins_listed rest)
+    by_test : (b : Bool) → is_builtin n.name ≡ b → builtins_in rest ≡ of_builtins rest
+        → fault_if b n.at TwiceDeclared ++ builtins_in rest ≡ of_builtins (n ∷ rest)
+    by_test true e ih = rw e (ap (λ l. (n.at, TwiceDeclared) ∷ l) ih)
+    by_test false e ih = rw e ih
 
 pub builtins_step : (old mid new : Option FaultAt) (xs : List Binding) (i : ℕ) (d : Binding) → i < length xs
     → Finds old mid (fault_if (is_builtin (get_or xs i d).name.now) (get_or xs i d).seen.at TwiceDeclared)
@@ -94,3 +100,13 @@ builtins_end old xs i h = rw (drop_of_length-le xs h) (finds_none old)
 pub some_or : {X : Type 0} (b : Bool) (v : X) (o : Option X) → is_some (cond b (Some v) o) ≡ (b || is_some o)
 some_or true v o = refl
 some_or false v o = refl
+
+pub finds_if : (old new : Option FaultAt) (b c : Bool) (at : ℕ) (code : FaultCode) → b ≡ c → Finds old new (fault_if b at code)
+    → Finds old new (fault_if c at code)
+finds_if old new b c at code e a = finds_same old new (fault_if b at code) (fault_if c at code) (ap (λ t. fault_if t at code) e) a
+
+-- at first no name stood before
+pub again_none : {X S : Type 0} (table : IndexMap (Bor (List ℕ)) X S) (xs : List NameAt) → table.entries ≡ []
+    → again_by (λ k. is_some (by_name table k)) xs ≡ again_by (λ k. false) xs
+again_none table xs e =
+    again_same (λ k. is_some (by_name table k)) (λ k. false) xs (λ k. ap (λ entries. is_some (lookup (λ key. bytes_eq k key.now) entries)) e)

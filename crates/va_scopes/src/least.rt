@@ -22,7 +22,11 @@ pub fn note(least: &mut Option<FaultAt>, at: u32, code: FaultCode)
 {
     let fault = (at, code);
     *least = match *least {
-        Some(known) => Some(if is_before(fault, known) { fault } else { known }),
+        Some(known) => Some(if is_before(fault, known) {
+            fault
+        } else {
+            known
+        }),
         None => Some(fault),
     };
 }

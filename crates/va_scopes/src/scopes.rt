@@ -59,7 +59,7 @@ pub fn seen(scopes: &Scopes, name: &[u8]) -> Option<Seen>
 /// Puts a binding before all others.
 fn bind<'a>(scopes: &mut Scopes<'a>, binding: Binding<'a>) -> Result<(), NoMemory>
     ensures { OnOk result ((known : List Declared) (outer : List (List Declared)) → IsScope scopes.old known outer
-        → IsScope scopes.new (declared_by binding ∷ known) outer) }
+        → IsScope scopes.new (declared_by binding.entry ∷ known) outer) }
 {
     let before = put(&mut scopes.table, binding.name, binding.seen)?;
     scopes.frame.hidden.push(Hidden {
@@ -72,7 +72,7 @@ fn bind<'a>(scopes: &mut Scopes<'a>, binding: Binding<'a>) -> Result<(), NoMemor
 /// Puts a binding before all others, if its name may be declared.
 fn declare<'a>(scopes: &mut Scopes<'a>, binding: Binding<'a>) -> Result<(), NoMemory>
     ensures { OnOk result ((known : List Declared) (outer : List (List Declared)) → IsScope scopes.old known outer
-        → IsScope scopes.new (in_front (declared_by binding) known) outer) }
+        → IsScope scopes.new (in_front (declared_by binding.entry) known) outer) }
 {
     if !is_builtin(binding.name) {
         bind(scopes, binding)?;
@@ -83,7 +83,7 @@ fn declare<'a>(scopes: &mut Scopes<'a>, binding: Binding<'a>) -> Result<(), NoMe
 /// Puts bindings before all others, the last first.
 fn bind_all<'a>(scopes: &mut Scopes<'a>, bindings: Vec<Binding<'a>>) -> Result<(), NoMemory>
     ensures { OnOk result ((known : List Declared) (outer : List (List Declared)) → IsScope scopes.old known outer
-        → IsScope scopes.new (all_in_front (map declared_by bindings.items) known) outer) }
+        → IsScope scopes.new (all_in_front (map declared_by bindings.entry.items) known) outer) }
 {
     let mut left = bindings;
     'declare: while let Some(last) = left.pop() {
@@ -96,7 +96,7 @@ fn bind_all<'a>(scopes: &mut Scopes<'a>, bindings: Vec<Binding<'a>>) -> Result<(
 /// stays without one.
 pub fn declare_all<'a>(scopes: &mut Scopes<'a>, bindings: Vec<Binding<'a>>) -> Result<(), NoMemory>
     ensures { OnOk result ((known : List Declared) (outer : List (List Declared)) → IsScope scopes.old known outer
-        → IsScope scopes.new (counting (map declared_by bindings.items) ++ known) outer) }
+        → IsScope scopes.new (counting (map declared_by bindings.entry.items) ++ known) outer) }
 {
     bind_all(scopes, bindings)
 }
@@ -116,7 +116,7 @@ pub fn open_scope(alloc: Global, scopes: &mut Scopes) -> Result<(), NoMemory>
 
 /// Gives a name the meaning that it had before a declaration.
 fn restore<'a>(table: &mut Table<'a>, hidden: Hidden<'a>) -> Result<(), NoMemory>
-    ensures { OnOk result ((name : List ℕ) → by_name table.new name ≡ undone (by_name table.old) (hidden ∷ []) name) }
+    ensures { OnOk result ((name : List ℕ) → by_name table.new name ≡ undone (by_name table.old) (hidden.entry ∷ []) name) }
 {
     match hidden.seen {
         Some(seen) => {
@@ -129,7 +129,7 @@ fn restore<'a>(table: &mut Table<'a>, hidden: Hidden<'a>) -> Result<(), NoMemory
 
 fn restore_all<'a>(table: &mut Table<'a>, frame: Frame<'a>) -> Result<(), NoMemory>
     ensures { OnOk result ((name : List ℕ) →
-        by_name table.new name ≡ undone (by_name table.old) (innermost_first frame.hidden.items) name) }
+        by_name table.new name ≡ undone (by_name table.old) (innermost_first frame.entry.hidden.items) name) }
 {
     let mut hidden = frame.hidden;
     'undo: while let Some(last) = hidden.pop() {

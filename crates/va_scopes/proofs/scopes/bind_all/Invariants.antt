@@ -4,7 +4,6 @@ use Rattle.va_sem.specs.Scopes.{Declared}
 use Rattle.va_scopes.specs.Bindings.{declared_by}
 use Rattle.va_scopes.specs.Declaring.{all_in_front}
 use Rattle.va_scopes.specs.Seeing.{IsScope}
-use Rattle.va_scopes.specs.declared.scopes.Scopes.{Scopes}
 use Rattle.va_scopes.proofs.scopes.bind_all.Given as goal
 
 -- whatever declares what is left declares all

@@ -1,4 +1,4 @@
-use Rattle.std.proofs.Common.{ℕ, List, drop}
+use Rattle.std.proofs.Common.{drop}
 use Rattle.std.specs.Prelude.{map, Option, false}
 use Rattle.std.specs.Option.{is_some}
 use Rattle.va_sem.specs.NamesFaults.{FaultAt}
