@@ -1,3 +1,4 @@
+pub mod BlockNames
 pub mod Builtins
 pub mod Bytes
 pub mod Finding

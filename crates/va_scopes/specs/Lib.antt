@@ -1,4 +1,5 @@
 pub mod Bindings
+pub mod Blocks
 pub mod Declaring
 pub mod Finds
 pub mod Seeing

@@ -2,6 +2,7 @@
 #![tactic(auto)]
 
 pub mod bindings;
+pub mod blocks;
 pub mod least;
 pub mod scopes;
 mod table;
