@@ -1,6 +1,6 @@
 -- The laws of bodies: each is one of evaluations that are related.
 use Rattle.std.specs.Prelude.{◌≡◌, ℕ, List}
-use Rattle.std.proofs.Common.{refl, inl, inr}
+use Rattle.std.proofs.Common.{refl, inl, inr, arith}
 use Rattle.alg_laws.specs.declared.number.Reason.{Reason}
 use Rattle.alg_laws.specs.declared.number.Reason.TheVariants.{Turns}
 use Rattle.alg_laws.specs.Dual.{dual}
@@ -12,11 +12,11 @@ use Rattle.ssa_ir.specs.Body.{Steps}
 use Rattle.ssa_ir.specs.Context.{Inputs, over}
 use Rattle.ssa_ir.specs.Evaluation.{Values, calls, run}
 use Rattle.ssa_ir.specs.Invariant.{Frame, Scope, IsTyped, behind}
-use Rattle.ssa_ir.specs.Laws.{StepsAreTheirLines, KeepsOutside, RunsInSequence, Knows, ReadsWhatIsDefined, BoundsOfBodies, MainsOfBodies, ValidityOfBodies, LiftsOfBodies}
+use Rattle.ssa_ir.specs.Laws.{StepsAreTheirLines, KeepsOutside, RunsInSequence, Knows, ReadsWhatIsDefined, FunctionsAreKept, BoundsOfBodies, MainsOfBodies, ValidityOfBodies, LiftsOfBodies}
 use Rattle.ssa_ir.specs.Related.{same_ends, more_turns, ValuesRelated, InputsRelated}
 use Rattle.ssa_ir.proofs.Endings.{same_closed, more_closed, same_related}
 use Rattle.ssa_ir.proofs.Lines.{steps_of_lines}
-use Rattle.ssa_ir.proofs.Outside.{gave, KeepsIt, steps_keep, run_both, scope_both, typed_both}
+use Rattle.ssa_ir.proofs.Outside.{gave, KeepsIt, steps_keep, run_both, scope_both, typed_both, longer_keeps}
 use Rattle.ssa_ir.proofs.Related.{body_related}
 
 pub steps_are_their_lines : StepsAreTheirLines
@@ -61,6 +61,11 @@ module _ {E V : Type 0} (o : Operations V) (valid : V → Type 0) where
     steps = λ inputs n stops F a b v. run_both (over o inputs n stops) F a b v;
     scope = scope_both;
     typed = typed_both;
+  }
+
+  pub functions_are_kept : FunctionsAreKept E V o valid
+  functions_are_kept = record {
+    functions = λ inputs n stops fs more k less. longer_keeps (over o inputs n stops) 0 _ fs more k (omega (arith, less));
   }
 
   pub reads_what_is_defined : ReadsWhatIsDefined E V o valid

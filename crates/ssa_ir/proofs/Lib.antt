@@ -3,3 +3,4 @@ pub mod Lines
 pub mod Related
 pub mod Outside
 pub mod LawsProved
+pub mod StoresNothing

@@ -1,12 +1,14 @@
 -- A run keeps what is outside, and steps that stand one after the other are run one after the other.
-use Rattle.std.specs.Prelude.{◌≡◌, ℕ, zero, suc, ◌==◌, Bool, true, false, ◌||◌, if◌then◌else◌, List, [], ◌∷◌, ◌++◌}
-use Rattle.std.proofs.Common.{refl, subst, ◌∙◌}
+use Rattle.std.specs.Prelude.{◌≡◌, ℕ, zero, suc, ◌==◌, Bool, true, false, ◌||◌, if◌then◌else◌, List, [], ◌∷◌, ◌++◌, ◌<◌, ◌+◌, length}
+use Rattle.std.proofs.Common.{refl, subst, ◌∙◌, arith}
+use Rattle.std.proofs.lemmas.Bool.Decides.{nat_tests}
 use Rattle.alg_laws.specs.NumberOps.{is_true}
 use Rattle.alg_laws.specs.Outcome.{Outcome, gives, ends, ◌>>=◌}
 use Rattle.alg_laws.specs.Loop.{turns}
 use Rattle.ssa_ir.specs.Body.{Merge, first_of, second_of, Step, Steps, value, choice, loop, stop, step, ◌⧺◌, merge_numbers, seen_of_step, seen}
 use Rattle.ssa_ir.specs.Context.{Context}
-use Rattle.ssa_ir.specs.Evaluation.{Values, Calls, AtTest, merged, computed, run_step, run}
+use Rattle.ssa_ir.specs.Evaluation.{with_value, Values, Calls, AtTest, merged, computed, run_step, run, function_value, calls_from}
+use Rattle.ssa_ir.specs.declared.body.Function.{Function}
 use Rattle.ssa_ir.specs.Invariant.{Frame, Scope, IsTyped, behind, behind_step}
 use Rattle.ssa_ir.specs.Laws.{is_among}
 
@@ -120,3 +122,15 @@ scope_both (step s a) b sc = scope_both a b (behind_step s sc)
 pub typed_both : (f : Frame) (a b : Steps) (sc : Scope) → IsTyped f sc a → IsTyped f (behind a sc) b → IsTyped f sc (a ⧺ b)
 typed_both f stop b sc p q = q
 typed_both f (step s a) b sc p q = (p.0, typed_both f a b (behind_step s sc) p.1 q)
+
+-- functions at the end of a list
+more_keeps : {E V : Type 0} (c : Context E V) (n : ℕ) (F : Calls E V) (more : List Function) (k : ℕ) → k < n → calls_from c n F more k ≡ F k
+more_keeps c n F [] k less = refl
+more_keeps c n F (g ∷ gs) k less =
+    let other : (k == n) ≡ false = grind (arith, nat_tests) in
+    more_keeps c (suc n) (with_value F n (function_value c F g)) gs k (omega (arith, less)) ∙ not_chosen (k == n) (function_value c F g) (F k) other
+
+pub longer_keeps : {E V : Type 0} (c : Context E V) (n : ℕ) (F : Calls E V) (fs more : List Function) (k : ℕ) → k < n + length fs
+    → calls_from c n F (fs ++ more) k ≡ calls_from c n F fs k
+longer_keeps c n F [] more k less = more_keeps c n F more k (omega (arith, less))
+longer_keeps c n F (f ∷ fs) more k less = longer_keeps c (suc n) (with_value F n (function_value c F f)) fs more k (omega (arith, less))

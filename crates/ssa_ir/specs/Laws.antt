@@ -1,5 +1,5 @@
 -- What holds of every body over every algebra.
-use Rattle.std.specs.Prelude.{◌≡◌, ℕ, ◌≤◌, ◌==◌, Bool, false, ◌||◌, List, [], ◌∷◌}
+use Rattle.std.specs.Prelude.{◌≡◌, ℕ, ◌≤◌, ◌==◌, Bool, false, ◌||◌, List, [], ◌∷◌, ◌<◌, ◌++◌, length}
 use Rattle.alg_laws.specs.declared.dual.Dual.{Dual}
 use Rattle.alg_laws.specs.declared.number.Reason.{Reason}
 use Rattle.alg_laws.specs.declared.number.Reason.TheVariants.{Turns}
@@ -81,3 +81,8 @@ pub record LiftsOfBodies (E V : Type 0) (o : Operations V) (valid : V → Type 0
       → (v : Values (Dual V)) (w : Values V) → ValuesRelated (IsLifted o valid) sc v w
       → OutcomesRelated (ValuesRelated (IsLifted o valid) (behind s sc)) (run (over (dual o) lifts n stops) (calls (over (dual o) lifts n stops) fs) s v)
       (run (over o inputs n stops) (calls (over o inputs n stops) fs) s w)
+
+-- Functions that are added at the end leave those before them as they are.
+pub record FunctionsAreKept (E V : Type 0) (o : Operations V) (valid : V → Type 0) : Type 0 where
+  pub functions : (inputs : Inputs V) (n : ℕ) (stops : Reason → E) (fs more : List Function) (k : ℕ) → k < length fs
+      → calls (over o inputs n stops) (fs ++ more) k ≡ calls (over o inputs n stops) fs k

@@ -4,7 +4,7 @@
 //! algebra. A law that speaks of the dual numbers over its own algebra is stated at the first three. The type `E` of early ends is
 //! free too.
 ghost use Rattle.alg_laws.specs.AtFour.{AtFour, AtThree};
-ghost use Rattle.ssa_ir.specs.Laws.{BoundsOfBodies, KeepsOutside, LiftsOfBodies, MainsOfBodies, ReadsWhatIsDefined, RunsInSequence, StepsAreTheirLines, ValidityOfBodies};
+ghost use Rattle.ssa_ir.specs.Laws.{BoundsOfBodies, FunctionsAreKept, KeepsOutside, LiftsOfBodies, MainsOfBodies, ReadsWhatIsDefined, RunsInSequence, StepsAreTheirLines, ValidityOfBodies};
 
 use alg_laws::Algebra;
 use std::marker::PhantomData;
@@ -22,6 +22,11 @@ pub fn runs_keep_what_is_outside<A: Algebra, E: Drop>(_law: PhantomData<A>, _end
 /// Two lists of steps, one after the other, are run one after the other.
 pub fn steps_run_in_sequence<A: Algebra, E: Drop>(_law: PhantomData<A>, _ends: PhantomData<E>)
     ensures { AtFour A.ops A.valid (RunsInSequence E) }
+{}
+
+/// Functions that are added at the end of a list leave those before them as they are.
+pub fn functions_are_kept<A: Algebra, E: Drop>(_law: PhantomData<A>, _ends: PhantomData<E>)
+    ensures { AtFour A.ops A.valid (FunctionsAreKept E) }
 {}
 
 /// A body that obeys the invariant never reads what isn't defined, nor what its frame doesn't have, and every number in scope has its

@@ -7,6 +7,7 @@
 pub mod body;
 pub mod laws;
 pub mod stages;
+pub mod staging;
 pub mod worked;
 
 pub use body::{BinaryOperator, Body, Function, Instruction, Operation, UnaryOperator};
@@ -14,3 +15,4 @@ pub use stages::{
     BranchNumbers, BranchParts, Collapse, Derived, EntryParts, Flags, Lowered, ModuleBodies,
     ParameterNumbers, Parts, Rows, SetUp, Split, Staged,
 };
+pub use staging::without_cells;
